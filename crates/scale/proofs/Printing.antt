@@ -1,0 +1,60 @@
+-- Writing bytes into a buffer. Assumes nothing.
+use mathlib.Core.Path.{_≡_, sym, ap, _∙_}
+use mathlib.Core.List.{List, _++_, append-assoc}
+use Prim.Native.Nat.{ℕ, _+_, _-_, _≤_, _<_}
+use native.Mathlib.Omega.{arith}
+use borrow.Rule.Slice.PartMut.{putMid}
+use lib.ListN.{length, take, drop, length-append, length-take, length-drop}
+use lib.Seq.{length-take-le, take-at, drop-at, drop-drop, drop-append-add, take-append-add}
+use Rattle.std.specs.declared.option.Option.{Option}
+use Rattle.std.specs.declared.option.Option.the-variants.{Some, None}
+use Rattle.scale.specs.Forms.{overwrite, Printed}
+
+-- a part of a buffer that is written as a whole
+pub part-overwrite : (before text part : List ℕ) (at end : ℕ) → part ≡ text → end ≡ at + length text → putMid at (end - at) before part ≡ overwrite before at text
+part-overwrite before text part at end same e =
+  let n : end - at ≡ length text = omega arith in
+  let d = drop-drop (end - at) at before ∙ ap (λ k. drop (at + k) before) n in
+  ap (λ p. take at before ++ (p ++ drop (end - at) (drop at before))) same ∙ ap (λ r. take at before ++ (text ++ r)) d
+
+module _ (before : List ℕ) (at : ℕ) (bytes : List ℕ) (room : at + length bytes ≤ length before) where
+  front : length (take at before ++ bytes) ≡ at + length bytes
+  front = length-append (take at before) bytes ∙ ap (λ n. n + length bytes) (length-take-le at before (omega arith))
+
+  pub length-overwrite : length (overwrite before at bytes) ≡ length before
+  length-overwrite =
+    let a = length-append (take at before) (bytes ++ drop (at + length bytes) before) in
+    let b = length-append bytes (drop (at + length bytes) before) in
+    let c = length-drop (at + length bytes) before in
+    let d = length-take-le at before (omega arith) in omega arith
+
+  -- what stands in the buffer up to the end of the bytes, and after them
+  pub take-overwrite : (end : ℕ) → end ≡ at + length bytes → take end (overwrite before at bytes) ≡ take at before ++ bytes
+  take-overwrite end e = ap (take end) (sym (append-assoc (take at before) bytes (drop (at + length bytes) before))) ∙ take-at (take at before ++ bytes) (drop (at + length bytes) before) end (front ∙ sym e)
+
+  pub drop-overwrite : (end : ℕ) → end ≡ at + length bytes → drop end (overwrite before at bytes) ≡ drop end before
+  drop-overwrite end e = ap (drop end) (sym (append-assoc (take at before) bytes (drop (at + length bytes) before))) ∙ drop-at (take at before ++ bytes) (drop (at + length bytes) before) end (front ∙ sym e) ∙ ap (λ n. drop n before) (sym e)
+
+  -- the bytes are read back where they were written
+  pub between-overwrite : (end : ℕ) → end ≡ at + length bytes → take (end - at) (drop at (overwrite before at bytes)) ≡ bytes
+  between-overwrite end e = ap (take (end - at)) (drop-at (take at before) (bytes ++ drop (at + length bytes) before) at (length-take-le at before (omega arith))) ∙ take-at bytes (drop (at + length bytes) before) (end - at) (omega arith)
+
+-- bytes written after bytes
+pub overwrite-append : (before : List ℕ) (at : ℕ) (u v : List ℕ) → at + length u ≤ length before → overwrite (overwrite before at u) (at + length u) v ≡ overwrite before at (u ++ v)
+overwrite-append before at u v room =
+  let n : at + length u + length v ≡ at + length (u ++ v) = omega (arith, length-append u v) in
+  let t = take-overwrite before at u room (at + length u) (λ i. at + length u) in
+  let o = drop-drop (length v) (at + length u) (overwrite before at u) in
+  let d = sym o ∙ ap (drop (length v)) (drop-overwrite before at u room (at + length u) (λ i. at + length u)) ∙ drop-drop (length v) (at + length u) before ∙ ap (λ k. drop k before) n in
+  ap (λ f. f ++ (v ++ drop (at + length u + length v) (overwrite before at u))) t
+  ∙ ap (λ r. (take at before ++ u) ++ (v ++ r)) d
+  ∙ append-assoc (take at before) u (v ++ drop (at + length (u ++ v)) before)
+  ∙ ap (λ r. take at before ++ r) (sym (append-assoc u v (drop (at + length (u ++ v)) before)))
+
+-- one print after another
+pub printed-append : (before middle after : List ℕ) (at mid end : ℕ) (u v : List ℕ) → Printed u at before middle (Some mid) → Printed v mid middle after (Some end) → Printed (u ++ v) at before after (Some end)
+printed-append before middle after at mid end u v (em, rm, wm) (ee, re, we) =
+  let room : at + length u ≤ length before = omega arith in
+  let l = ap length wm ∙ length-overwrite before at u room in
+  let n = length-append u v in
+  (omega arith, omega arith, we ∙ ap (λ b. overwrite b mid v) wm ∙ ap (λ k. overwrite (overwrite before at u) k v) em ∙ overwrite-append before at u v room)

@@ -1,0 +1,25 @@
+-- Words: what the lines of a sheet are made of, and what a written mark is. Assumes nothing.
+use mathlib.Core.Path.{_≡_}
+use mathlib.Core.Bool.{Bool, true, _||_, _&&_}
+use mathlib.Core.List.{List}
+use Prim.Native.Nat.{ℕ, _≤_}
+use lib.Dec.{leb, eqb}
+use lib.ListN.{length}
+use Rattle.std.specs.shelf.Lists.{All}
+
+-- the byte of `/`
+abbrev pub slash : ℕ
+slash = 47
+
+abbrev between : ℕ → ℕ → ℕ → Bool
+between from to byte = leb from byte && leb byte to
+
+-- an ASCII letter, `A` to `Z` or `a` to `z`, a digit `0` to `9`, or a slash
+abbrev pub plain : ℕ → Bool
+plain byte = between 65 90 byte || between 97 122 byte || between 48 57 byte || eqb byte slash
+
+-- one to 24 such bytes
+pub record Word (bytes : List ℕ) : Type 0 where
+  pub some : 1 ≤ length bytes
+  pub short : length bytes ≤ 24
+  pub plainly : All (λ byte. plain byte ≡ true) bytes

@@ -1,0 +1,55 @@
+// Decimal digits.
+ghost use mathlib.Core.Path.{_≡_};
+ghost use Prim.Native.Nat.{_+_, _≤_};
+ghost use Rattle.std.specs.Options.{Cases};
+ghost use Rattle.scale.specs.Thousandths.{digit, figure};
+
+// A decimal digit.
+#[derive(Clone, Copy, PartialEq, Eq, Debug)]
+pub enum Digit {
+    Zero,
+    One,
+    Two,
+    Three,
+    Four,
+    Five,
+    Six,
+    Seven,
+    Eight,
+    Nine,
+}
+
+impl Digit {
+    // The digit of a number below ten.
+    pub fn new(number: u16) -> Option<Digit>
+        ensures { λ r. ⌜ Cases r (10 ≤ number) (λ d. digit d ≡ number) ⌝ }
+    {
+        match number {
+            0 => Some(Digit::Zero),
+            1 => Some(Digit::One),
+            2 => Some(Digit::Two),
+            3 => Some(Digit::Three),
+            4 => Some(Digit::Four),
+            5 => Some(Digit::Five),
+            6 => Some(Digit::Six),
+            7 => Some(Digit::Seven),
+            8 => Some(Digit::Eight),
+            9 => Some(Digit::Nine),
+            _ => None,
+        }
+    }
+
+    // The ASCII byte of the digit.
+    pub fn figure(self) -> u8
+        ensures { λ r. ⌜ r ≡ figure self ⌝ }
+    {
+        b'0' + self as u8
+    }
+
+    // The digit of an ASCII byte.
+    pub fn read(byte: u8) -> Option<Digit>
+        ensures { λ r. ⌜ Cases r ((d : Digit) → byte ≡ figure d → ⊥) (λ d. byte ≡ figure d) ⌝ }
+    {
+        Digit::new(u16::from(byte.checked_sub(b'0')?))
+    }
+}

@@ -1,0 +1,20 @@
+// Scales of marks, and how marks are written.
+mod digits;
+mod grades;
+mod order;
+mod pairs;
+mod per_mille;
+mod writing;
+
+pub use digits::Digit;
+pub use grades::Grade;
+pub use grades::GradeScale;
+pub use order::Scale;
+pub use order::lower;
+pub use pairs::Pair;
+pub use pairs::PairScale;
+pub use pairs::Ranked;
+pub use per_mille::PerMille;
+pub use per_mille::PerMilleScale;
+pub use writing::Written;
+pub use writing::put;
