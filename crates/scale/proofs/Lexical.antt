@@ -28,26 +28,29 @@ module _ {A B : Type 0} (CA : Chain A) (CB : Chain B) (x y : Pair A B) where
 module _ {A B : Type 0} {CA : Chain A} {CB : Chain B} (a : Laws CA) (b : Laws CB) where
   pair-total : (x y : Pair A B) → AtMost (pair-order CA CB) x y ⊎ AtMost (pair-order CA CB) y x
   pair-total x y = elim (cases-bool (CA .leq (x .first) (y .first))) [
-      inr above ↦ inr (from-parts CA CB y x (elim (a .total (x .first) (y .first)) [ inl h ↦ absurd (both-ways _ above h) | inr h ↦ h ]) (λ h. absurd (both-ways _ above h)))
+    | inr above ↦ inr (from-parts CA CB y x (elim (a .total (x .first) (y .first)) [ inl h ↦ absurd (both-ways _ above h) | inr h ↦ h ]) (λ h. absurd (both-ways _ above h)))
     | inl below ↦ elim (cases-bool (CA .leq (y .first) (x .first))) [
-        inr above ↦ inl (from-parts CA CB x y below (λ h. absurd (both-ways _ above h)))
+      | inr above ↦ inl (from-parts CA CB x y below (λ h. absurd (both-ways _ above h)))
       | inl same ↦ elim (b .total (x .second) (y .second)) [
-          inl h ↦ inl (from-parts CA CB x y below (λ _. h))
-        | inr h ↦ inr (from-parts CA CB y x same (λ _. h)) ] ] ]
+        | inl h ↦ inl (from-parts CA CB x y below (λ _. h))
+        | inr h ↦ inr (from-parts CA CB y x same (λ _. h))
+      ]
+    ]
+  ]
 
   pair-trans : (x y z : Pair A B) → AtMost (pair-order CA CB) x y → AtMost (pair-order CA CB) y z → AtMost (pair-order CA CB) x z
   pair-trans x y z p q =
-    let xy = parts CA CB x y p in
-    let yz = parts CA CB y z q in
-    from-parts CA CB x z (a .trans _ _ _ (xy .0) (yz .0))
+      let xy = parts CA CB x y p in
+      let yz = parts CA CB y z q in
+      from-parts CA CB x z (a .trans _ _ _ (xy .0) (yz .0))
       (λ zx. b .trans _ _ _ (xy .1 (a .trans _ _ _ (yz .0) zx)) (yz .1 (a .trans _ _ _ zx (xy .0))))
 
   pair-antisym : (x y : Pair A B) → AtMost (pair-order CA CB) x y → AtMost (pair-order CA CB) y x → x ≡ y
   pair-antisym x y p q =
-    let xy = parts CA CB x y p in
-    let yx = parts CA CB y x q in
-    let f = a .antisym _ _ (xy .0) (yx .0) in
-    let s = b .antisym _ _ (xy .1 (yx .0)) (yx .1 (xy .0)) in λ i. record { first = f i; second = s i }
+      let xy = parts CA CB x y p in
+      let yx = parts CA CB y x q in
+      let f = a .antisym _ _ (xy .0) (yx .0) in
+      let s = b .antisym _ _ (xy .1 (yx .0)) (yx .1 (xy .0)) in λ i. record { first = f i; second = s i }
 
   pub pair-laws : Laws (pair-order CA CB)
   pair-laws = record {
@@ -56,5 +59,5 @@ module _ {A B : Type 0} {CA : Chain A} {CB : Chain B} (a : Laws CA) (b : Laws CB
     antisym = pair-antisym;
     least = λ x. from-parts CA CB _ x (a .least (x .first)) (λ _. b .least (x .second));
     greatest = λ x. from-parts CA CB x _ (a .greatest (x .first)) (λ _. b .greatest (x .second));
-    apart = λ e. let f : Pair A B → A = λ p. p .first in a .apart (ap f e)
+    apart = λ e. let f : Pair A B → A = λ p. p .first in a .apart (ap f e);
   }

@@ -1,9 +1,11 @@
 -- Digits and per-mille marks as numbers. Assumes nothing.
 use mathlib.Core.Path.{_≡_, refl, sym, ap, _∙_}
 use mathlib.Core.List.{List, [], _∷_}
-use Prim.Native.Nat.{ℕ, _+_, _*_, _/_, _%_, _≤_, _<_}
+use Prim.Native.Nat.{ℕ, zero, suc, _+_, _*_, _/_, _%_, _≤_, _<_}
 use native.Mathlib.Omega.{arith}
 use lib.ListN.{getD}
+use mathlib.Core.Logic.{inl, inr}
+use Rattle.std.proofs.shelf.Tests.{cases-eq}
 use Rattle.scale.specs.Order.{Laws}
 use Rattle.scale.specs.Thousandths.{digit, thousandths, mille-order, Whole}
 use Rattle.scale.specs.declared.digits.Digit.{Digit}
@@ -48,11 +50,39 @@ mille-once Thousand Thousand e = refl
 mille-once Thousand (Digits h t o) e = absurd (omega (arith, digit-lt h, digit-lt t, digit-lt o))
 mille-once (Digits h t o) Thousand e = absurd (omega (arith, digit-lt h, digit-lt t, digit-lt o))
 mille-once (Digits h t o) (Digits h′ t′ o′) e =
-  let a = digit-lt h in let b = digit-lt t in let c = digit-lt o in
-  let a′ = digit-lt h′ in let b′ = digit-lt t′ in let c′ = digit-lt o′ in
-  let eh = digit-once h h′ (omega arith) in
-  let et = digit-once t t′ (omega arith) in
-  let eo = digit-once o o′ (omega arith) in cc
+    let a = digit-lt h in let b = digit-lt t in let c = digit-lt o in
+    let a′ = digit-lt h′ in let b′ = digit-lt t′ in let c′ = digit-lt o′ in
+    let eh = digit-once h h′ (omega arith) in
+    let et = digit-once t t′ (omega arith) in
+    let eo = digit-once o o′ (omega arith) in cc
 
 pub mille-laws : Laws mille-order
 mille-laws = numbered-laws thousandths (Digits Zero Zero Zero) Thousand mille-once (λ m. omega arith) mille-within (omega arith)
+
+-- each number below ten is a digit's
+digit-every : (n : ℕ) → n < 10 → digit (digit-of n) ≡ n
+unfolding digit-of digit-list
+digit-every zero h = refl
+digit-every (suc zero) h = refl
+digit-every (suc (suc zero)) h = refl
+digit-every (suc (suc (suc zero))) h = refl
+digit-every (suc (suc (suc (suc zero)))) h = refl
+digit-every (suc (suc (suc (suc (suc zero))))) h = refl
+digit-every (suc (suc (suc (suc (suc (suc zero)))))) h = refl
+digit-every (suc (suc (suc (suc (suc (suc (suc zero))))))) h = refl
+digit-every (suc (suc (suc (suc (suc (suc (suc (suc zero)))))))) h = refl
+digit-every (suc (suc (suc (suc (suc (suc (suc (suc (suc zero))))))))) h = refl
+digit-every (suc (suc (suc (suc (suc (suc (suc (suc (suc (suc n)))))))))) h = absurd (omega arith)
+
+mille-every : (n : ℕ) → n ≤ 1000 → (m : PerMille) × (thousandths m ≡ n)
+mille-every n h = elim (cases-eq n 1000) [
+  | inl e ↦ (Thousand, sym e)
+  | inr ne ↦
+      let a = digit-every (n / 100) (omega arith) in
+      let b = digit-every (n / 10 % 10) (omega arith) in
+      let c = digit-every (n % 10) (omega arith) in
+      (Digits (digit-of (n / 100)) (digit-of (n / 10 % 10)) (digit-of (n % 10)), omega arith)
+]
+
+pub mille-whole : Whole
+mille-whole = record { within = mille-within; every = mille-every; once = mille-once }

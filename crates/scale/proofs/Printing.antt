@@ -1,5 +1,5 @@
 -- Writing bytes into a buffer. Assumes nothing.
-use mathlib.Core.Path.{_≡_, sym, ap, _∙_}
+use mathlib.Core.Path.{_≡_, sym, ap, subst, _∙_}
 use mathlib.Core.List.{List, _++_, append-assoc}
 use Prim.Native.Nat.{ℕ, _+_, _-_, _≤_, _<_}
 use native.Mathlib.Omega.{arith}
@@ -13,9 +13,9 @@ use Rattle.scale.specs.Forms.{overwrite, Printed}
 -- a part of a buffer that is written as a whole
 pub part-overwrite : (before text part : List ℕ) (at end : ℕ) → part ≡ text → end ≡ at + length text → putMid at (end - at) before part ≡ overwrite before at text
 part-overwrite before text part at end same e =
-  let n : end - at ≡ length text = omega arith in
-  let d = drop-drop (end - at) at before ∙ ap (λ k. drop (at + k) before) n in
-  ap (λ p. take at before ++ (p ++ drop (end - at) (drop at before))) same ∙ ap (λ r. take at before ++ (text ++ r)) d
+    let n : end - at ≡ length text = omega arith in
+    let d = drop-drop (end - at) at before ∙ ap (λ k. drop (at + k) before) n in
+    ap (λ p. take at before ++ (p ++ drop (end - at) (drop at before))) same ∙ ap (λ r. take at before ++ (text ++ r)) d
 
 module _ (before : List ℕ) (at : ℕ) (bytes : List ℕ) (room : at + length bytes ≤ length before) where
   front : length (take at before ++ bytes) ≡ at + length bytes
@@ -23,10 +23,10 @@ module _ (before : List ℕ) (at : ℕ) (bytes : List ℕ) (room : at + length b
 
   pub length-overwrite : length (overwrite before at bytes) ≡ length before
   length-overwrite =
-    let a = length-append (take at before) (bytes ++ drop (at + length bytes) before) in
-    let b = length-append bytes (drop (at + length bytes) before) in
-    let c = length-drop (at + length bytes) before in
-    let d = length-take-le at before (omega arith) in omega arith
+      let a = length-append (take at before) (bytes ++ drop (at + length bytes) before) in
+      let b = length-append bytes (drop (at + length bytes) before) in
+      let c = length-drop (at + length bytes) before in
+      let d = length-take-le at before (omega arith) in omega arith
 
   -- what stands in the buffer up to the end of the bytes, and after them
   pub take-overwrite : (end : ℕ) → end ≡ at + length bytes → take end (overwrite before at bytes) ≡ take at before ++ bytes
@@ -42,19 +42,23 @@ module _ (before : List ℕ) (at : ℕ) (bytes : List ℕ) (room : at + length b
 -- bytes written after bytes
 pub overwrite-append : (before : List ℕ) (at : ℕ) (u v : List ℕ) → at + length u ≤ length before → overwrite (overwrite before at u) (at + length u) v ≡ overwrite before at (u ++ v)
 overwrite-append before at u v room =
-  let n : at + length u + length v ≡ at + length (u ++ v) = omega (arith, length-append u v) in
-  let t = take-overwrite before at u room (at + length u) (λ i. at + length u) in
-  let o = drop-drop (length v) (at + length u) (overwrite before at u) in
-  let d = sym o ∙ ap (drop (length v)) (drop-overwrite before at u room (at + length u) (λ i. at + length u)) ∙ drop-drop (length v) (at + length u) before ∙ ap (λ k. drop k before) n in
-  ap (λ f. f ++ (v ++ drop (at + length u + length v) (overwrite before at u))) t
-  ∙ ap (λ r. (take at before ++ u) ++ (v ++ r)) d
-  ∙ append-assoc (take at before) u (v ++ drop (at + length (u ++ v)) before)
-  ∙ ap (λ r. take at before ++ r) (sym (append-assoc u v (drop (at + length (u ++ v)) before)))
+    let n : at + length u + length v ≡ at + length (u ++ v) = omega (arith, length-append u v) in
+    let t = take-overwrite before at u room (at + length u) (λ i. at + length u) in
+    let o = drop-drop (length v) (at + length u) (overwrite before at u) in
+    let d = sym o ∙ ap (drop (length v)) (drop-overwrite before at u room (at + length u) (λ i. at + length u)) ∙ drop-drop (length v) (at + length u) before ∙ ap (λ k. drop k before) n in
+    ap (λ f. f ++ (v ++ drop (at + length u + length v) (overwrite before at u))) t
+    ∙ ap (λ r. (take at before ++ u) ++ (v ++ r)) d
+    ∙ append-assoc (take at before) u (v ++ drop (at + length (u ++ v)) before)
+    ∙ ap (λ r. take at before ++ r) (sym (append-assoc u v (drop (at + length (u ++ v)) before)))
 
 -- one print after another
 pub printed-append : (before middle after : List ℕ) (at mid end : ℕ) (u v : List ℕ) → Printed u at before middle (Some mid) → Printed v mid middle after (Some end) → Printed (u ++ v) at before after (Some end)
 printed-append before middle after at mid end u v (em, rm, wm) (ee, re, we) =
-  let room : at + length u ≤ length before = omega arith in
-  let l = ap length wm ∙ length-overwrite before at u room in
-  let n = length-append u v in
-  (omega arith, omega arith, we ∙ ap (λ b. overwrite b mid v) wm ∙ ap (λ k. overwrite (overwrite before at u) k v) em ∙ overwrite-append before at u v room)
+    let room : at + length u ≤ length before = omega arith in
+    let l = ap length wm ∙ length-overwrite before at u room in
+    let n = length-append u v in
+    (omega arith, omega arith, we ∙ ap (λ b. overwrite b mid v) wm ∙ ap (λ k. overwrite (overwrite before at u) k v) em ∙ overwrite-append before at u v room)
+
+-- a print of the same bytes
+pub printed-same : (u v : List ℕ) (at : ℕ) (before after : List ℕ) (r : Option ℕ) → Printed v at before after r → u ≡ v → Printed u at before after r
+printed-same u v at before after r p e = subst (λ bytes. Printed bytes at before after r) (sym e) p

@@ -8,7 +8,7 @@ abbrev pub pair-order : {A B : Type 0} → Chain A → Chain B → Chain (Pair A
 pair-order CA CB = record {
   leq = λ p q. cond (CA .leq (p .first) (q .first)) (cond (CA .leq (q .first) (p .first)) (CB .leq (p .second) (q .second)) true) false;
   low = record { first = CA .low; second = CB .low };
-  high = record { first = CA .high; second = CB .high }
+  high = record { first = CA .high; second = CB .high };
 }
 
 -- the answer to whether p is at most q, in words

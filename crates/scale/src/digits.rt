@@ -1,6 +1,6 @@
 // Decimal digits.
 ghost use mathlib.Core.Path.{_≡_};
-ghost use Prim.Native.Nat.{_+_, _≤_};
+ghost use Prim.Native.Nat.{_≤_};
 ghost use Rattle.std.specs.Options.{Cases};
 ghost use Rattle.scale.specs.Thousandths.{digit, figure};
 
@@ -44,12 +44,5 @@ impl Digit {
         ensures { λ r. ⌜ r ≡ figure self ⌝ }
     {
         b'0' + self as u8
-    }
-
-    // The digit of an ASCII byte.
-    pub fn read(byte: u8) -> Option<Digit>
-        ensures { λ r. ⌜ Cases r ((d : Digit) → byte ≡ figure d → ⊥) (λ d. byte ≡ figure d) ⌝ }
-    {
-        Digit::new(u16::from(byte.checked_sub(b'0')?))
     }
 }

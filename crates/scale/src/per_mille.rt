@@ -1,8 +1,13 @@
 // The per-mille scale.
 ghost use mathlib.Core.Path.{_≡_};
-ghost use Rattle.scale.specs.Thousandths.{thousandths, mille-order};
+ghost use Prim.Native.Nat.{ℕ, _<_, _^_};
+ghost use Rattle.std.specs.Options.{Cases};
+ghost use Rattle.std.specs.Written.{decimal};
+ghost use Rattle.scale.specs.Thousandths.{thousandths, mille-order, mille-bytes, Whole};
 use super::digits::Digit;
 use super::order::Scale;
+use super::writing::Written;
+use super::writing::put;
 use crate::digits::DigitDebug;
 use crate::digits::DigitPartialEq;
 
@@ -14,6 +19,20 @@ pub enum PerMille {
 }
 
 impl PerMille {
+    // The mark of a number from 0 to 1000.
+    pub fn new(number: u16) -> Option<PerMille>
+        ensures mark { λ r. ⌜ Cases r (1000 < number) (λ m. thousandths m ≡ number) ⌝ }
+        ensures whole { λ _. ⌜ Whole ⌝ }
+    {
+        if number == 1000 {
+            return Some(PerMille::Thousand);
+        }
+        let hundreds = Digit::new(number / 100)?;
+        let tens = Digit::new(number / 10 % 10)?;
+        let ones = Digit::new(number % 10)?;
+        Some(PerMille::Digits(hundreds, tens, ones))
+    }
+
     // The number that the mark is.
     pub fn value(self) -> u16
         ensures { λ r. ⌜ r ≡ thousandths self ⌝ }
@@ -41,4 +60,52 @@ pub impl Scale for PerMille as PerMilleScale {
     fn at_most(self, other: PerMille) -> bool {
         self.value() <= other.value()
     }
+}
+
+pub impl Written for PerMille as PerMilleWritten {
+    const WIDTH: usize = 4;
+
+    ghost bytes = { mille-bytes };
+
+    ghost width = { 4 };
+
+    fn max_width() -> usize {
+        Self::WIDTH
+    }
+
+    fn printed_len(self) -> usize {
+        match self.value() {
+            0..=9 => 1,
+            10..=99 => 2,
+            100..=999 => 3,
+            _ => 4,
+        }
+    }
+
+    fn print(self, out: &mut [u8], at: usize) -> Option<usize> {
+        let PerMille::Digits(hundreds, tens, ones) = self else {
+            return put(b"1000", out, at);
+        };
+        match self.value() {
+            0..=9 => put(&[ones.figure()], out, at),
+            10..=99 => put(&[tens.figure(), ones.figure()], out, at),
+            _ => put(&[hundreds.figure(), tens.figure(), ones.figure()], out, at),
+        }
+    }
+
+    fn read(word: &[u8]) -> Option<PerMille> {
+        PerMille::new(read_decimal(word)?)
+    }
+}
+
+// The number that a word writes in decimal without leading zeros.
+fn read_decimal(word: &[u8]) -> Option<u16>
+    ensures { λ r. ⌜ Cases r ((n : ℕ) → n < 2 ^ 16 → now (word .entry) ≡ decimal n → ⊥) (λ n. now (word .entry) ≡ decimal n) ⌝ }
+{
+    // `parse` takes leading zeros and a plus too
+    if word.len() > 1 && word[0] < b'1' {
+        return None;
+    }
+    let text = std::str::from_utf8(word).ok()?;
+    text.parse::<u16>().ok()
 }
