@@ -4,3 +4,4 @@ pub mod Lexical
 pub mod Printing
 pub mod Numerals
 pub mod Decimals
+pub mod Slashes

@@ -8,7 +8,7 @@ use lib.ListN.{length, take, drop, length-append, length-take, length-drop}
 use lib.Seq.{length-take-le, take-at, drop-at, drop-drop, drop-append-add, take-append-add}
 use Rattle.std.specs.declared.option.Option.{Option}
 use Rattle.std.specs.declared.option.Option.the-variants.{Some, None}
-use Rattle.scale.specs.Forms.{overwrite, Printed}
+use Rattle.scale.specs.Forms.{overwrite, Printed, Reads, Forms, RoundTrip}
 
 -- a part of a buffer that is written as a whole
 pub part-overwrite : (before text part : List ℕ) (at end : ℕ) → part ≡ text → end ≡ at + length text → putMid at (end - at) before part ≡ overwrite before at text
@@ -59,6 +59,21 @@ printed-append before middle after at mid end u v (em, rm, wm) (ee, re, we) =
     let n = length-append u v in
     (omega arith, omega arith, we ∙ ap (λ b. overwrite b mid v) wm ∙ ap (λ k. overwrite (overwrite before at u) k v) em ∙ overwrite-append before at u v room)
 
+-- one print after another where there is room for both, so that the second one is not refused
+pub printed-then : (before middle after : List ℕ) (at mid : ℕ) (r : Option ℕ) (u v : List ℕ) → at + length u + length v ≤ length before → Printed u at before middle (Some mid) → Printed v mid middle after r → Printed (u ++ v) at before after r
+printed-then before middle after at mid (Some end) u v room first second = printed-append before middle after at mid end u v first second
+printed-then before middle after at mid None u v room (em, rm, wm) (short, same) =
+    let l = ap length wm ∙ length-overwrite before at u (omega arith) in absurd (omega arith)
+
 -- a print of the same bytes
 pub printed-same : (u v : List ℕ) (at : ℕ) (before after : List ℕ) (r : Option ℕ) → Printed v at before after r → u ≡ v → Printed u at before after r
 printed-same u v at before after r p e = subst (λ bytes. Printed bytes at before after r) (sym e) p
+
+pub unread : {M : Type 0} (bytes : M → List ℕ) (word : List ℕ) (r : Option M) → r ≡ None → ((m : M) → word ≡ bytes m → ⊥) → Reads bytes word r
+unread bytes word r e h = subst (Reads bytes word) (sym e) h
+
+pub round-trip : {M : Type 0} {bytes : M → List ℕ} {width : ℕ} → Forms bytes width → RoundTrip bytes
+round-trip {bytes = bytes} forms m at end before after (Some n) (e, room, w) h =
+    ap Some (forms .distinct n m (sym h ∙ ap (λ b. take (end - at) (drop at b)) w ∙ between-overwrite before at (bytes m) (omega arith) end e))
+round-trip {bytes = bytes} forms m at end before after None (e, room, w) h =
+    absurd (h m (ap (λ b. take (end - at) (drop at b)) w ∙ between-overwrite before at (bytes m) (omega arith) end e))

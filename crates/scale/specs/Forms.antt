@@ -1,7 +1,7 @@
 -- The written forms of marks, and what it is to print and to read one. Assumes nothing.
 use mathlib.Core.Path.{_≡_}
 use mathlib.Core.List.{List, _++_}
-use Prim.Native.Nat.{ℕ, _+_, _≤_, _<_}
+use Prim.Native.Nat.{ℕ, _+_, _-_, _≤_, _<_}
 use lib.ListN.{length, take, drop}
 use Rattle.std.specs.declared.option.Option.{Option}
 use Rattle.std.specs.declared.option.Option.the-variants.{Some, None}
@@ -29,3 +29,7 @@ Printed bytes at before after None = (length before < at + length bytes) × (aft
 abbrev pub Reads : {M : Type 0} → (M → List ℕ) → List ℕ → Option M → Type 0
 Reads bytes word (Some m) = word ≡ bytes m
 Reads {M} bytes word None = (m : M) → word ≡ bytes m → ⊥
+
+-- reading what was printed gives the mark back
+abbrev pub RoundTrip : {M : Type 0} → (M → List ℕ) → Type 0
+RoundTrip {M} bytes = (m : M) (at end : ℕ) (before after : List ℕ) (r : Option M) → Printed (bytes m) at before after (Some end) → Reads bytes (take (end - at) (drop at after)) r → r ≡ Some m

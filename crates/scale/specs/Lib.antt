@@ -4,3 +4,4 @@ pub mod Thousandths
 pub mod Pairs
 pub mod Words
 pub mod Forms
+pub mod Ranks

@@ -23,3 +23,7 @@ pub record Word (bytes : List ℕ) : Type 0 where
   pub some : 1 ≤ length bytes
   pub short : length bytes ≤ 24
   pub plainly : All (λ byte. plain byte ≡ true) bytes
+
+-- no slash among the bytes
+abbrev pub NoSlash : List ℕ → Type 0
+NoSlash bytes = All (λ byte. byte ≡ slash → ⊥) bytes

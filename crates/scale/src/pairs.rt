@@ -1,9 +1,7 @@
 // The scale of pairs of marks.
 ghost use mathlib.Core.Path.{_≡_};
 ghost use Rattle.scale.specs.Pairs.{pair-order, FirstDecides};
-use super::grades::Grade;
 use super::order::Scale;
-use super::per_mille::PerMille;
 
 // One mark of each of two scales. The first parts decide, and where they are equal the second parts do.
 #[derive(Clone, Copy, PartialEq, Eq, Debug)]
@@ -11,9 +9,6 @@ pub struct Pair<A, B> {
     pub first: A,
     pub second: B,
 }
-
-// A ranked mark: a grade, and a per-mille mark within it.
-pub type Ranked = Pair<Grade, PerMille>;
 
 pub impl<A: Scale, B: Scale> Scale for Pair<A, B> as PairScale {
     ghost order = { pair-order (A·Scale .order) (B·Scale .order) };

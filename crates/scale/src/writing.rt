@@ -3,8 +3,8 @@ ghost use mathlib.Core.List.{List};
 ghost use mathlib.Core.Path.{_≡_};
 ghost use Prim.Native.Nat.{ℕ, _+_, _≤_, _<_};
 ghost use lib.ListN.{length};
-ghost use Rattle.std.specs.Options.{Cases};
-ghost use Rattle.scale.specs.Forms.{Forms, Printed, Reads};
+ghost use Rattle.std.specs.Options.{Cases, mapped};
+ghost use Rattle.scale.specs.Forms.{Forms, Printed, Reads, RoundTrip};
 use super::order::Scale;
 
 // A scale that can also print and read its marks. Each mark has just one written form, a word of 1 to 24 ASCII
@@ -54,4 +54,14 @@ pub fn put(text: &[u8], out: &mut [u8], at: usize) -> Option<usize>
     let end = end_of(out.len(), at, text.len())?;
     out[at..end].copy_from_slice(text);
     Some(end)
+}
+
+// Prints a mark and reads it back: the same mark, wherever its form fits.
+pub fn read_back<S: Written>(mark: S, out: &mut [u8], at: usize) -> Option<S>
+    ensures back { λ r. ⌜ Cases r (length (now (out .entry)) < at + length (S·Written .bytes mark)) (λ m. m ≡ mark) ⌝ }
+    ensures printed { λ r. ⌜ Printed (S·Written .bytes mark) at (now (out .entry)) (now (out .exit)) (mapped (λ _. at + length (S·Written .bytes mark)) r) ⌝ }
+    ensures always { λ _. ⌜ RoundTrip (S·Written .bytes) ⌝ }
+{
+    let end = mark.print(out, at)?;
+    S::read(&out[at..end])
 }
