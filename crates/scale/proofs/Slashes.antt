@@ -5,7 +5,6 @@ use mathlib.Core.List.{List, [], _∷_, _++_}
 use Prim.Native.Nat.{ℕ, suc, _+_, _≤_, _<_}
 use native.Mathlib.Omega.{arith}
 use native.Mathlib.Numerals.{add-one}
-use borrow.Author.Needs.{needs}
 use lib.ListN.{length, getD, take, drop, length-append}
 use lib.Seq.{split-at}
 use Rattle.std.proofs.shelf.Elements.{all-append}
@@ -15,10 +14,11 @@ use Rattle.scale.specs.Grades.{grade-bytes}
 use Rattle.scale.specs.Thousandths.{mille-bytes}
 use Rattle.scale.specs.Ranks.{ranked-bytes}
 use Rattle.scale.specs.declared.grades.Grade.{Grade}
-use Rattle.scale.specs.declared.grades.Grade.the-variants.{Absent, Trace, Partial, Strong, Full}
+use Rattle.scale.specs.declared.grades.Grade.the-variants.{Partial}
 use Rattle.scale.specs.declared.per_mille.PerMille.{PerMille}
-use Rattle.scale.specs.declared.per_mille.PerMille.the-variants.{Thousand, Digits}
+use Rattle.scale.specs.declared.per_mille.PerMille.the-variants.{Thousand}
 use Rattle.scale.specs.declared.pairs.Pair.{Pair}
+use Rattle.scale.proofs.Grading.{grade-forms, grade-no-slash}
 use Rattle.scale.proofs.Numerals.{mille-forms, decimal-thousand}
 
 -- a word is cut at its first slash in one way
@@ -39,16 +39,6 @@ has-slash (b ∷ u) v p = has-slash u v (p .1)
 -- a word that has a slash at a place
 pub cut-at : (word : List ℕ) (i : ℕ) → i < length word → getD word i 0 ≡ slash → word ≡ take i word ++ (slash ∷ drop (i + 1) word)
 cut-at word i h e = split-at word i 0 h ∙ ap (λ b. take i word ++ (b ∷ drop (suc i) word)) e ∙ ap (λ k. take i word ++ (slash ∷ drop k word)) (sym (add-one i))
-
-pub grade-forms : Forms grade-bytes 7
-grade-forms = search needs
-
-pub grade-no-slash : (g : Grade) → NoSlash (grade-bytes g)
-grade-no-slash Absent = search needs
-grade-no-slash Trace = search needs
-grade-no-slash Partial = search needs
-grade-no-slash Strong = search needs
-grade-no-slash Full = search needs
 
 length-ranked : (m : Pair Grade PerMille) → length (ranked-bytes m) ≡ length (grade-bytes (m .first)) + (1 + length (mille-bytes (m .second)))
 length-ranked m = length-append (grade-bytes (m .first)) (slash ∷ mille-bytes (m .second)) ∙ omega arith

@@ -1,7 +1,7 @@
 pub mod Order
+pub mod Words
+pub mod Forms
 pub mod Grades
 pub mod Thousandths
 pub mod Pairs
-pub mod Words
-pub mod Forms
 pub mod Ranks

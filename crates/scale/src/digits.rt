@@ -1,11 +1,11 @@
 // Decimal digits.
 ghost use mathlib.Core.Path.{_≡_};
-ghost use Prim.Native.Nat.{_≤_};
+ghost use Prim.Native.Nat.{_<_, _≤_};
 ghost use Rattle.std.specs.Options.{Cases};
 ghost use Rattle.scale.specs.Thousandths.{digit, figure};
 
 // A decimal digit.
-#[derive(Clone, Copy, PartialEq, Eq, Debug)]
+#[derive(Clone, Copy, PartialEq, Eq)]
 pub enum Digit {
     Zero,
     One,
@@ -21,7 +21,7 @@ pub enum Digit {
 
 impl Digit {
     // The digit of a number below ten.
-    pub fn new(number: u16) -> Option<Digit>
+    pub(crate) fn new(number: u16) -> Option<Digit>
         ensures { λ r. ⌜ Cases r (10 ≤ number) (λ d. digit d ≡ number) ⌝ }
     {
         match number {
@@ -39,8 +39,16 @@ impl Digit {
         }
     }
 
+    // The number of the digit.
+    pub(crate) fn value(self) -> u16
+        ensures number { λ r. ⌜ r ≡ digit self ⌝ }
+        ensures below { λ r. ⌜ r < 10 ⌝ }
+    {
+        self as u16
+    }
+
     // The ASCII byte of the digit.
-    pub fn figure(self) -> u8
+    pub(crate) fn figure(self) -> u8
         ensures { λ r. ⌜ r ≡ figure self ⌝ }
     {
         b'0' + self as u8

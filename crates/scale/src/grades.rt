@@ -6,7 +6,7 @@ use super::writing::Written;
 use super::writing::put;
 
 // How strongly something holds, rising from absent to full.
-#[derive(Clone, Copy, PartialEq, Eq, Debug)]
+#[derive(Clone, Copy, PartialEq, Eq)]
 pub enum Grade {
     Absent,
     Trace,
@@ -26,7 +26,7 @@ const GRADES: [Grade; 5] = [
 
 impl Grade {
     // The word that the grade is written as.
-    pub fn word(self) -> &'static [u8]
+    fn word(self) -> &'static [u8]
         ensures { λ r. ⌜ now r ≡ grade-bytes self ⌝ }
     {
         match self {
@@ -43,11 +43,11 @@ pub impl Scale for Grade as GradeScale {
     ghost order = { grade-order };
 
     fn lowest() -> Grade {
-        Grade::Absent
+        Self::Absent
     }
 
     fn highest() -> Grade {
-        Grade::Full
+        Self::Full
     }
 
     fn at_most(self, other: Grade) -> bool {

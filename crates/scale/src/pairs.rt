@@ -4,7 +4,7 @@ ghost use Rattle.scale.specs.Pairs.{pair-order, FirstDecides};
 use super::order::Scale;
 
 // One mark of each of two scales. The first parts decide, and where they are equal the second parts do.
-#[derive(Clone, Copy, PartialEq, Eq, Debug)]
+#[derive(Clone, Copy, PartialEq, Eq)]
 pub struct Pair<A, B> {
     pub first: A,
     pub second: B,

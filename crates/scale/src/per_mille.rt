@@ -1,18 +1,19 @@
 // The per-mille scale.
 ghost use mathlib.Core.Path.{_≡_};
 ghost use Prim.Native.Nat.{ℕ, _<_, _^_};
+ghost use lib.ListN.{length, getD};
 ghost use Rattle.std.specs.Options.{Cases};
+ghost use Rattle.std.specs.Orderings.{Decides};
 ghost use Rattle.std.specs.Written.{decimal};
 ghost use Rattle.scale.specs.Thousandths.{thousandths, mille-order, mille-bytes, Whole};
 use super::digits::Digit;
 use super::order::Scale;
 use super::writing::Written;
 use super::writing::put;
-use crate::digits::DigitDebug;
 use crate::digits::DigitPartialEq;
 
 // A whole number from 0 to 1000: the thousand, or three digits, the hundreds first.
-#[derive(Clone, Copy, PartialEq, Eq, Debug)]
+#[derive(Clone, Copy, PartialEq, Eq)]
 pub enum PerMille {
     Thousand,
     Digits(Digit, Digit, Digit),
@@ -40,7 +41,7 @@ impl PerMille {
         match self {
             PerMille::Thousand => 1000,
             PerMille::Digits(hundreds, tens, ones) => {
-                100 * (hundreds as u16) + 10 * (tens as u16) + ones as u16
+                100 * hundreds.value() + 10 * tens.value() + ones.value()
             }
         }
     }
@@ -50,11 +51,11 @@ pub impl Scale for PerMille as PerMilleScale {
     ghost order = { mille-order };
 
     fn lowest() -> PerMille {
-        PerMille::Digits(Digit::Zero, Digit::Zero, Digit::Zero)
+        Self::Digits(Digit::Zero, Digit::Zero, Digit::Zero)
     }
 
     fn highest() -> PerMille {
-        PerMille::Thousand
+        Self::Thousand
     }
 
     fn at_most(self, other: PerMille) -> bool {
@@ -98,12 +99,18 @@ pub impl Written for PerMille as PerMilleWritten {
     }
 }
 
+// Whether a word of more than one byte begins with a byte above `0`: `parse` takes leading zeros and a plus too.
+fn leads_well(word: &[u8]) -> bool
+    ensures { λ r. ⌜ Decides r (1 < length (now (word .entry)) → 48 < getD (now (word .entry)) 0 0) ⌝ }
+{
+    word.len() <= 1 || word[0] > b'0'
+}
+
 // The number that a word writes in decimal without leading zeros.
 fn read_decimal(word: &[u8]) -> Option<u16>
     ensures { λ r. ⌜ Cases r ((n : ℕ) → n < 2 ^ 16 → now (word .entry) ≡ decimal n → ⊥) (λ n. now (word .entry) ≡ decimal n) ⌝ }
 {
-    // `parse` takes leading zeros and a plus too
-    if word.len() > 1 && word[0] < b'1' {
+    if !leads_well(word) {
         return None;
     }
     let text = std::str::from_utf8(word).ok()?;

@@ -43,8 +43,11 @@ pub trait Written: Scale {
 pub(crate) fn end_of(size: usize, at: usize, len: usize) -> Option<usize>
     ensures { λ r. ⌜ Cases r (size < at + len) (λ end. (end ≡ at + len) × (end ≤ size)) ⌝ }
 {
-    let end = at.checked_add(len)?;
-    if end > size { None } else { Some(end) }
+    if at <= size && len <= size - at {
+        Some(at + len)
+    } else {
+        None
+    }
 }
 
 // Writes `text` into `out` from the place `at` on, as `Written::print` does a mark's form.

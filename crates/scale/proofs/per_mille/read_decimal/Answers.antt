@@ -1,17 +1,15 @@
 use borrow.Author.Needs.{needs}
 use mathlib.Core.Path.{_≡_, sym, subst}
 use Prim.Native.Nat.{ℕ, _<_, _^_}
-use native.Mathlib.Omega.{arith}
-use lib.ListN.{length, getD}
 use Rattle.std.specs.Reads.{ReadsUnsigned}
 use Rattle.std.specs.Text.{Utf8}
 use Rattle.std.specs.Written.{decimal}
+use Rattle.std.proofs.shelf.Ways.{not-from-decides}
 use Rattle.scale.proofs.Decimals.{decimal-first, decimal-utf8, parse-decimal}
 use Rattle.scale.proofs.per_mille.read_decimal.Needs as need
-use Rattle.scale.proofs.per_mille.read_decimal.Needs.{else-word-gt1·by·then-word-gt1·else-word-lt49, else-word-gt1·by·else-word-gt1}
 
-pub returns-then-word-lt49 : need.returns-then-word-lt49
-returns-then-word-lt49 c = λ n fits e. omega (arith, decimal-first (c .args .word .now) n fits e (omega arith))
+pub returns-then-not-leads-well : need.returns-then-not-leads-well
+returns-then-not-leads-well c = λ n fits e. not-from-decides (c .leads-well .result) (c .leads-well .ensures) (c .if-not-leads-well .taken) (decimal-first (c .args .word .now) n fits e)
 
 pub returns-in-Break-text : need.returns-in-Break-text
 returns-in-Break-text c =
@@ -22,7 +20,5 @@ returns-in-Break-text c =
 pub returns : need.returns
 returns c =
     let text : c .in-Continue-text .text .now ≡ c .args .word .now = search needs in
-    let lead : 1 < length (c .args .word .now) → 48 < getD (c .args .word .now) 0 0 =
-    λ more. elim (c .else-word-gt1 .came) [ else-word-gt1·by·then-word-gt1·else-word-lt49 w ↦ omega arith | else-word-gt1·by·else-word-gt1 w ↦ omega arith ] in
-    let read = parse-decimal (c .args .word .now) (c .parse .result) lead (subst (λ bs. ReadsUnsigned 16 10 bs (c .parse .result)) text (c .parse .ensures .reads .0)) in
+    let read = parse-decimal (c .args .word .now) (c .parse .result) (c .leads-well .ensures .0 (c .if-not-leads-well .left)) (subst (λ bs. ReadsUnsigned 16 10 bs (c .parse .result)) text (c .parse .ensures .reads .0)) in
     search needs

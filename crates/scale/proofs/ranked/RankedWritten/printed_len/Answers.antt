@@ -1,5 +1,5 @@
 use native.Mathlib.Omega.{arith}
-use Rattle.scale.proofs.Slashes.{grade-forms}
+use Rattle.scale.proofs.Grading.{grade-forms}
 use Rattle.scale.proofs.Numerals.{mille-forms}
 use Rattle.scale.proofs.ranked.RankedWritten.printed_len.Needs as need
 

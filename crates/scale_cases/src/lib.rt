@@ -1,0 +1,3 @@
+// Cases of the scales and of their written forms.
+#[cfg(test)]
+mod tests;
