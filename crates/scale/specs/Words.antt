@@ -11,12 +11,12 @@ use Rattle.std.specs.shelf.Lists.{All}
 abbrev pub slash : ℕ
 slash = 47
 
-abbrev between : ℕ → ℕ → ℕ → Bool
-between from to byte = leb from byte && leb byte to
+abbrev in-range : ℕ → ℕ → ℕ → Bool
+in-range from to byte = leb from byte && leb byte to
 
 -- an ASCII letter, `A` to `Z` or `a` to `z`, a digit `0` to `9`, or a slash
 abbrev pub plain : ℕ → Bool
-plain byte = between 65 90 byte || between 97 122 byte || between 48 57 byte || eqb byte slash
+plain byte = in-range 65 90 byte || in-range 97 122 byte || in-range 48 57 byte || eqb byte slash
 
 -- one to 24 such bytes
 pub record Word (bytes : List ℕ) : Type 0 where

@@ -1,13 +1,14 @@
 // What a scale is, and the lower of two marks.
 ghost use mathlib.Core.Path.{_≡_};
-ghost use Rattle.scale.specs.Order.{Chain, Laws, Lower};
-ghost use Rattle.scale.specs.Order.{lower as lower-of};
+ghost use Rattle.scale.specs.Order.{Chain, Laws, Lower, lower as lower-of};
 
-// A scale: a kind of mark with an order. A mark is a truth degree, and a scale a bounded chain of them.
+// A scale: a kind of mark with an order. The field's words are truth degree for a mark, and bounded chain of truth
+// degrees for a scale. Whatever shows the laws is a scale.
 pub trait Scale: Copy {
-    // Whether one mark is at most another, the lowest mark and the highest.
+    // What the order means: whether one mark is at most another, the lowest mark and the highest.
     ghost order: { Chain Self };
 
+    // Each implementation proves these, and generic code may use them.
     law laws: { Laws order };
 
     fn lowest() -> Self

@@ -19,6 +19,7 @@ pub trait Written: Scale {
     // What `WIDTH` is: a clause cannot cite an associated constant.
     ghost width: { ℕ };
 
+    // Each implementation proves these too: forms are words, differ from mark to mark, and keep within the width.
     law forms: { Forms bytes width };
 
     // `WIDTH`, with the contract that it is the greatest width.
@@ -34,7 +35,7 @@ pub trait Written: Scale {
     fn print(self, out: &mut [u8], at: usize) -> Option<usize>
         ensures { λ r. ⌜ Printed (bytes self) at (now (out .entry)) (now (out .exit)) r ⌝ };
 
-    // The mark whose form the word is.
+    // The mark whose form the word is; `None` where it is no mark's form.
     fn read(word: &[u8]) -> Option<Self>
         ensures { λ r. ⌜ Reads bytes (now (word .entry)) r ⌝ };
 }

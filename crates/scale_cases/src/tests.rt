@@ -1,3 +1,6 @@
+use super::Switch;
+use super::SwitchPartialEq;
+use super::SwitchScale;
 use scale::Grade;
 use scale::GradePartialEq;
 use scale::GradeScale;
@@ -166,4 +169,19 @@ fn no_room_leaves_the_buffer() -> Result<(), Fail> {
     check(&out == b"............")?;
     check(mark.print(&mut out, 2) == Some(12))?;
     check(&out == b"..strong/100")
+}
+
+#[test]
+fn a_scale_of_ones_own() -> Result<(), Fail> {
+    let off = Pair {
+        first: Switch::Off,
+        second: Grade::Full,
+    };
+    let on = Pair {
+        first: Switch::On,
+        second: Grade::Absent,
+    };
+    check(off.at_most(on) && !on.at_most(off))?;
+    check(lower(on, off) == off)?;
+    check(Pair::<Switch, Grade>::highest().second == Grade::Full)
 }

@@ -9,6 +9,6 @@ use Rattle.tour.specs.declared.route.Route.{Route}
 abbrev pub strength : {M : Type 0} → Chain M → Route M → M
 strength order route = lower order (route .first) (route .second)
 
--- as `700 then 400: 400`, and a line feed
+-- as `700 then 400 gives 400`, and a line feed
 abbrev pub route-line : {M : Type 0} → Chain M → (M → List ℕ) → Route M → List ℕ
-route-line order bytes route = bytes (route .first) ++ (codes " then " ++ (bytes (route .second) ++ (codes ": " ++ (bytes (strength order route) ++ (10 ∷ [])))))
+route-line order bytes route = bytes (route .first) ++ (codes " then " ++ (bytes (route .second) ++ (codes " gives " ++ (bytes (strength order route) ++ (10 ∷ [])))))

@@ -27,19 +27,16 @@ impl<S: Written> Route<S> {
         ensures { λ r. ⌜ Printed (route-line (S·Scale .order) (S·Written .bytes) self) 0 (now (out .entry)) (now (out .exit)) r ⌝ }
     {
         let strength = self.strength();
-        let len = self.first.printed_len()
-            + 6
-            + self.second.printed_len()
-            + 2
-            + strength.printed_len()
-            + 1;
-        if out.len() < len {
+        let then = b" then ";
+        let gives = b" gives ";
+        let marks = self.first.printed_len() + self.second.printed_len() + strength.printed_len();
+        if out.len() < marks + then.len() + gives.len() + 1 {
             return None;
         }
         let mut at = self.first.print(out, 0)?;
-        at = put(b" then ", out, at)?;
+        at = put(then, out, at)?;
         at = self.second.print(out, at)?;
-        at = put(b": ", out, at)?;
+        at = put(gives, out, at)?;
         at = strength.print(out, at)?;
         put(b"\n", out, at)
     }
