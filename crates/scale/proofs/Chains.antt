@@ -1,10 +1,10 @@
 -- Laws of scales. Assumes nothing.
 use mathlib.Core.Path.{_≡_, ap}
-use mathlib.Core.Logic.{_⊎_, inl, inr}
+use mathlib.Core.Logic.{inl, inr}
 use Prim.Native.Nat.{ℕ, _≤_, _<_}
 use native.Mathlib.Omega.{arith}
-use Rattle.std.proofs.shelf.Tests.{leb-true, leb-false, le-leb, cases-lt}
-use Rattle.scale.specs.Order.{Chain, AtMost, Laws, numbered}
+use Rattle.std.proofs.shelf.Tests.{leb-true, le-leb, cases-lt}
+use Rattle.scale.specs.Order.{Laws, numbered}
 
 -- an order by a number is lawful where the number tells the marks apart and the ends have the least and the greatest number
 pub numbered-laws : {M : Type 0} (number : M → ℕ) (low high : M) → ((a b : M) → number a ≡ number b → a ≡ b) → ((a : M) → number low ≤ number a) → ((a : M) → number a ≤ number high) → number low < number high → Laws (numbered number low high)

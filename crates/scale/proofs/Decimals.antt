@@ -1,13 +1,13 @@
 -- Reading a number in decimal. Assumes nothing.
-use mathlib.Core.Path.{_≡_, refl, sym, ap, subst, _∙_}
-use mathlib.Core.List.{List, [], _∷_}
+use mathlib.Core.Path.{_≡_, sym, ap, subst, _∙_}
+use mathlib.Core.List.{List}
 use mathlib.Core.Logic.{inl, inr}
-use Prim.Native.Nat.{ℕ, _+_, _^_, _≤_, _<_}
+use Prim.Native.Nat.{ℕ, _^_, _<_}
 use native.Mathlib.Omega.{arith}
 use lib.ListN.{length, getD, length-drop}
 use Rattle.std.specs.Options.{Cases}
 use Rattle.std.specs.Results.{okPart}
-use Rattle.std.specs.Reads.{Digits, Numeral, value, afterPlus, ReadsUnsigned}
+use Rattle.std.specs.Reads.{Digits, value, ReadsUnsigned}
 use Rattle.std.specs.Text.{Utf8}
 use Rattle.std.specs.Written.{decimal}
 use Rattle.std.specs.declared.result.Result.{Result}

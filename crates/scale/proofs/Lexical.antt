@@ -1,9 +1,9 @@
 -- A pair of scales is a scale. Assumes nothing.
-use mathlib.Core.Path.{_≡_, refl, ap, sym, _∙_}
+use mathlib.Core.Path.{_≡_, refl, ap, sym}
 use mathlib.Core.Bool.{Bool, true, false, cond}
 use mathlib.Core.Logic.{_⊎_, inl, inr}
 use Rattle.std.proofs.shelf.Tests.{cases-bool, true≢false, both-ways}
-use Rattle.scale.specs.Order.{Chain, AtMost, Above, Laws}
+use Rattle.scale.specs.Order.{Chain, AtMost, Laws}
 use Rattle.scale.specs.Pairs.{pair-order}
 use Rattle.scale.specs.declared.pairs.Pair.{Pair}
 

@@ -1,20 +1,20 @@
 -- Per-mille marks in decimal. Assumes nothing.
-use mathlib.Core.Path.{_≡_, refl, sym, ap, _∙_}
+use mathlib.Core.Path.{_≡_, sym, ap, _∙_}
 use mathlib.Core.Bool.{true}
 use mathlib.Core.List.{List, [], _∷_, _++_}
-use Prim.Native.Nat.{ℕ, _+_, _*_, _/_, _%_, _^_, _≤_, _<_}
+use Prim.Native.Nat.{ℕ, _+_, _/_, _%_, _^_, _≤_, _<_}
 use native.Mathlib.Omega.{arith}
-use lib.ListN.{length}
+use lib.ListN.{length, take}
+use lib.Seq.{length-take-le}
 use Rattle.std.specs.Written.{decimal}
 use Rattle.std.specs.shelf.Lists.{All}
 use Rattle.std.proofs.shelf.Decimals.{decimal-digit, decimal-step, decimal-by-steps, decimal-some, length-decimal-le, same-from-decimal}
 use Rattle.std.proofs.shelf.Elements.{all-push}
 use Rattle.std.proofs.shelf.Ways.{tells}
-use Rattle.scale.specs.Thousandths.{digit, figure, thousandths, mille-bytes}
-use Rattle.scale.specs.Words.{plain, Word}
+use Rattle.scale.specs.Thousandths.{digit, figure, thousandths, mille-bytes, Form}
+use Rattle.scale.specs.Words.{plain}
 use Rattle.scale.specs.Forms.{Forms}
 use Rattle.scale.specs.declared.digits.Digit.{Digit}
-use Rattle.scale.specs.declared.per_mille.PerMille.{PerMille}
 use Rattle.scale.specs.declared.per_mille.PerMille.the-variants.{Thousand, Digits}
 use Rattle.scale.proofs.Marks.{digit-lt, mille-within, mille-once}
 
@@ -47,18 +47,8 @@ module _ (h t o : Digit) where
       let eo : thousandths (Digits h t o) % 10 ≡ digit o = omega arith in
       decimal-three (thousandths (Digits h t o)) lo (omega arith) ∙ ap (λ x. (48 + x) ∷ (48 + thousandths (Digits h t o) / 10 % 10) ∷ (48 + thousandths (Digits h t o) % 10) ∷ []) eh ∙ ap (λ x. (48 + digit h) ∷ (48 + x) ∷ (48 + thousandths (Digits h t o) % 10) ∷ []) et ∙ ap (λ x. (48 + digit h) ∷ (48 + digit t) ∷ (48 + x) ∷ []) eo
 
--- how many bytes a per-mille mark has
-pub length-one : (n : ℕ) → n < 10 → length (decimal n) ≡ 1
-length-one n lt = ap length (decimal-digit n lt)
-
-pub length-two : (n : ℕ) → 10 ≤ n → n < 100 → length (decimal n) ≡ 2
-length-two n lo hi = ap length (decimal-two n lo hi)
-
-pub length-three : (n : ℕ) → 100 ≤ n → n < 1000 → length (decimal n) ≡ 3
-length-three n lo hi = ap length (decimal-three n lo hi)
-
-pub length-four : (m : PerMille) → 1000 ≤ thousandths m → length (mille-bytes m) ≡ 4
-length-four m lo = ap (λ n. length (decimal n)) (omega (arith, mille-within m)) ∙ ap length decimal-thousand
+pub form-of : (bytes array : List ℕ) (len : ℕ) → bytes ≡ take len array → len ≤ 4 → len ≤ length array → Form bytes array len
+form-of bytes array len e short fits = record { begins = sym e; long = sym (ap length e ∙ length-take-le len array fits); short = short }
 
 digit-plain : (b : ℕ) → b < 10 → plain (48 + b) ≡ true
 digit-plain b h = grind (arith, tells)

@@ -8,7 +8,7 @@ use native.Mathlib.Numerals.{add-one}
 use lib.ListN.{length, getD, take, drop, length-append}
 use lib.Seq.{split-at}
 use Rattle.std.proofs.shelf.Elements.{all-append}
-use Rattle.scale.specs.Words.{slash, plain, Word, NoSlash}
+use Rattle.scale.specs.Words.{slash, plain, NoSlash}
 use Rattle.scale.specs.Forms.{Forms}
 use Rattle.scale.specs.Grades.{grade-bytes}
 use Rattle.scale.specs.Thousandths.{mille-bytes}

@@ -1,6 +1,6 @@
 -- What a scale is: a total order on its marks whose lowest and highest mark differ. A mark is a truth degree. Assumes nothing.
 use mathlib.Core.Path.{_≡_}
-use mathlib.Core.Bool.{Bool, true, false, cond}
+use mathlib.Core.Bool.{Bool, true, cond}
 use mathlib.Core.Logic.{_⊎_}
 use Prim.Native.Nat.{ℕ}
 use lib.Dec.{leb}
@@ -13,9 +13,6 @@ pub record Chain (M : Type 0) : Type 0 where
 
 abbrev pub AtMost : {M : Type 0} → Chain M → M → M → Type 0
 AtMost C a b = C .leq a b ≡ true
-
-abbrev pub Above : {M : Type 0} → Chain M → M → M → Type 0
-Above C a b = C .leq a b ≡ false
 
 -- the laws of a scale
 pub record Laws {M : Type 0} (C : Chain M) : Type 0 where

@@ -2,6 +2,7 @@
 use mathlib.Core.Path.{_≡_}
 use mathlib.Core.List.{List}
 use Prim.Native.Nat.{ℕ, _+_, _*_, _≤_}
+use lib.ListN.{length, take}
 use Rattle.std.specs.Written.{decimal}
 use Rattle.scale.specs.Order.{Chain, numbered}
 use Rattle.scale.specs.declared.digits.Digit.{Digit}
@@ -42,3 +43,9 @@ pub record Whole : Type 0 where
 -- a per-mille mark is written in decimal, without leading zeros
 abbrev pub mille-bytes : PerMille → List ℕ
 mille-bytes m = decimal (thousandths m)
+
+-- an array of four bytes that begins with a form, and the form's length
+pub record Form (bytes array : List ℕ) (len : ℕ) : Type 0 where
+  pub begins : take len array ≡ bytes
+  pub long : len ≡ length bytes
+  pub short : len ≤ 4

@@ -5,7 +5,7 @@ ghost use lib.ListN.{length, getD};
 ghost use Rattle.std.specs.Options.{Cases};
 ghost use Rattle.std.specs.Orderings.{Decides};
 ghost use Rattle.std.specs.Written.{decimal};
-ghost use Rattle.scale.specs.Thousandths.{thousandths, mille-order, mille-bytes, Whole};
+ghost use Rattle.scale.specs.Thousandths.{thousandths, mille-order, mille-bytes, Whole, Form};
 use super::digits::Digit;
 use super::order::Scale;
 use super::writing::Written;
@@ -45,6 +45,21 @@ impl PerMille {
             }
         }
     }
+
+    // The bytes of the written form, at the start of four, and how many there are.
+    fn form(self) -> ([u8; 4], usize)
+        ensures { λ r. ⌜ Form (mille-bytes self) (r .0) (r .1) ⌝ }
+    {
+        let PerMille::Digits(hundreds, tens, ones) = self else {
+            return (*b"1000", 4);
+        };
+        let (hundreds, tens, ones) = (hundreds.figure(), tens.figure(), ones.figure());
+        match self.value() {
+            0..=9 => ([ones, 0, 0, 0], 1),
+            10..=99 => ([tens, ones, 0, 0], 2),
+            _ => ([hundreds, tens, ones, 0], 3),
+        }
+    }
 }
 
 pub impl Scale for PerMille as PerMilleScale {
@@ -75,23 +90,13 @@ pub impl Written for PerMille as PerMilleWritten {
     }
 
     fn printed_len(self) -> usize {
-        match self.value() {
-            0..=9 => 1,
-            10..=99 => 2,
-            100..=999 => 3,
-            _ => 4,
-        }
+        let (_, len) = self.form();
+        len
     }
 
     fn print(self, out: &mut [u8], at: usize) -> Option<usize> {
-        let PerMille::Digits(hundreds, tens, ones) = self else {
-            return put(b"1000", out, at);
-        };
-        match self.value() {
-            0..=9 => put(&[ones.figure()], out, at),
-            10..=99 => put(&[tens.figure(), ones.figure()], out, at),
-            _ => put(&[hundreds.figure(), tens.figure(), ones.figure()], out, at),
-        }
+        let (form, len) = self.form();
+        put(&form[0..len], out, at)
     }
 
     fn read(word: &[u8]) -> Option<PerMille> {

@@ -65,6 +65,7 @@ pub fn read_back<S: Written>(mark: S, out: &mut [u8], at: usize) -> Option<S>
     ensures back { λ r. ⌜ Cases r (length (now (out .entry)) < at + length (S·Written .bytes mark)) (λ m. m ≡ mark) ⌝ }
     ensures printed { λ r. ⌜ Printed (S·Written .bytes mark) at (now (out .entry)) (now (out .exit)) (mapped (λ _. at + length (S·Written .bytes mark)) r) ⌝ }
     ensures always { λ _. ⌜ RoundTrip (S·Written .bytes) ⌝ }
+    ensures forms { λ _. ⌜ Forms (S·Written .bytes) (S·Written .width) ⌝ }
 {
     let end = mark.print(out, at)?;
     S::read(&out[at..end])

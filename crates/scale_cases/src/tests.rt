@@ -65,8 +65,9 @@ static NO_GRADES: [&[u8]; 7] = [
     b"3",
 ];
 
-static NO_RANKS: [&[u8]; 12] = [
+static NO_RANKS: [&[u8]; 13] = [
     b"",
+    b"Strong",
     b"/",
     b"strong",
     b"100",
@@ -101,7 +102,34 @@ fn per_mille_both_ways() -> Result<(), Fail> {
         check(mark.value() == *value)?;
         both_ways(mark, word)?;
     }
-    check(PerMille::new(1001) == None)
+    check(PerMille::new(1001) == None)?;
+    check(PerMille::new(u16::MAX) == None)
+}
+
+#[test]
+fn every_ranked_mark_is_read_back() -> Result<(), Fail> {
+    for (grade, _) in GRADES.iter() {
+        for value in 0..=1000 {
+            let mark = ranked(*grade, value)?;
+            check(mark.second.value() == value)?;
+            let mut out = [b'.'; 12];
+            check(read_back(mark, &mut out, 0) == Some(mark))?;
+        }
+    }
+    Ok(())
+}
+
+#[test]
+fn numbers_rise() -> Result<(), Fail> {
+    for (i, (a, _)) in NUMBERS.iter().enumerate() {
+        let a = PerMille::new(*a).ok_or("a number up to 1000")?;
+        check(PerMille::lowest().at_most(a) && a.at_most(PerMille::highest()))?;
+        for (j, (b, _)) in NUMBERS.iter().enumerate() {
+            let b = PerMille::new(*b).ok_or("a number up to 1000")?;
+            check(a.at_most(b) == (i <= j))?;
+        }
+    }
+    check(PerMille::lowest().value() == 0 && PerMille::highest().value() == 1000)
 }
 
 #[test]

@@ -22,7 +22,8 @@ impl<S: Written> Route<S> {
         lower(self.first, self.second)
     }
 
-    // Writes the line that tells the route's strength at the start of `out`.
+    // Writes the line that tells the route's strength at the start of `out`, and answers its length; `None`, and `out`
+    // as it was, where the line does not fit.
     pub fn print(self, out: &mut [u8]) -> Option<usize>
         ensures { λ r. ⌜ Printed (route-line (S·Scale .order) (S·Written .bytes) self) 0 (now (out .entry)) (now (out .exit)) r ⌝ }
     {

@@ -1,6 +1,6 @@
 use borrow.Author.Needs.{needs}
-use mathlib.Core.Path.{_≡_, sym, subst}
-use Prim.Native.Nat.{ℕ, _<_, _^_}
+use mathlib.Core.Path.{_≡_, subst}
+use Prim.Native.Nat.{ℕ, _<_}
 use Rattle.std.specs.Reads.{ReadsUnsigned}
 use Rattle.std.specs.Text.{Utf8}
 use Rattle.std.specs.Written.{decimal}

@@ -3,10 +3,10 @@ use Rattle.scale.proofs.Printing.{round-trip}
 use Rattle.scale.proofs.writing.read_back.Needs as need
 
 pub returns-in-Break-end : need.returns-in-Break-end
-returns-in-Break-end g c = record { back = search needs; printed = search needs; always = round-trip (g .S·Written·met .forms) }
+returns-in-Break-end g c = record { back = search needs; printed = search needs; always = round-trip (g .S·Written·met .forms); forms = g .S·Written·met .forms }
 
 pub returns : need.returns
 returns g c =
     let printed = c .in-Continue-end .ensures tt in
     let same = round-trip (g .S·Written·met .forms) (c .args .mark) (c .args .at) (c .in-Continue-end .end) (c .args .out .now) (c .print .last .out) (c .read .result) printed (c .read .ensures) in
-    record { back = search needs; printed = search needs; always = round-trip (g .S·Written·met .forms) }
+    record { back = search needs; printed = search needs; always = round-trip (g .S·Written·met .forms); forms = g .S·Written·met .forms }

@@ -1,4 +1,4 @@
-use Prim.Native.Nat.{ℕ, _<_}
+use Prim.Native.Nat.{_<_}
 use mathlib.Core.Path.{_≡_}
 use Rattle.scale.specs.Grades.{rank, grade-bytes}
 use Rattle.scale.specs.declared.grades.Grade.{Grade}

@@ -1,5 +1,4 @@
 use borrow.Author.Needs.{needs}
-use native.Mathlib.Omega.{arith}
 use Rattle.scale.proofs.Marks.{mille-whole}
 use Rattle.scale.proofs.per_mille.PerMille.new.Needs as need
 
