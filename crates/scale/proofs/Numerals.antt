@@ -37,7 +37,7 @@ module _ (h t o : Digit) where
       let a = digit-lt h in let b = digit-lt t in let c = digit-lt o in
       let et : thousandths (Digits h t o) / 10 ≡ digit t = omega arith in
       let eo : thousandths (Digits h t o) % 10 ≡ digit o = omega arith in
-      decimal-two (thousandths (Digits h t o)) lo hi ∙ ap (λ x. (48 + x) ∷ (48 + thousandths (Digits h t o) % 10) ∷ []) et ∙ ap (λ x. (48 + digit t) ∷ (48 + x) ∷ []) eo
+      decimal-two (thousandths (Digits h t o)) lo hi ∙ λ i. (48 + et i) ∷ (48 + eo i) ∷ []
 
   pub mille-three : 100 ≤ thousandths (Digits h t o) → mille-bytes (Digits h t o) ≡ figure h ∷ figure t ∷ figure o ∷ []
   mille-three lo =
@@ -45,11 +45,13 @@ module _ (h t o : Digit) where
       let eh : thousandths (Digits h t o) / 10 / 10 ≡ digit h = omega arith in
       let et : thousandths (Digits h t o) / 10 % 10 ≡ digit t = omega arith in
       let eo : thousandths (Digits h t o) % 10 ≡ digit o = omega arith in
-      decimal-three (thousandths (Digits h t o)) lo (omega arith) ∙ ap (λ x. (48 + x) ∷ (48 + thousandths (Digits h t o) / 10 % 10) ∷ (48 + thousandths (Digits h t o) % 10) ∷ []) eh ∙ ap (λ x. (48 + digit h) ∷ (48 + x) ∷ (48 + thousandths (Digits h t o) % 10) ∷ []) et ∙ ap (λ x. (48 + digit h) ∷ (48 + digit t) ∷ (48 + x) ∷ []) eo
+      decimal-three (thousandths (Digits h t o)) lo (omega arith) ∙ λ i. (48 + eh i) ∷ (48 + et i) ∷ (48 + eo i) ∷ []
 
+-- an array that begins with a form
 pub form-of : (bytes array : List ℕ) (len : ℕ) → bytes ≡ take len array → len ≤ 4 → len ≤ length array → Form bytes array len
 form-of bytes array len e short fits = record { begins = sym e; long = sym (ap length e ∙ length-take-le len array fits); short = short }
 
+-- every byte of a number is a digit's, so its form is a word
 digit-plain : (b : ℕ) → b < 10 → plain (48 + b) ≡ true
 digit-plain b h = grind (arith, tells)
 
@@ -58,6 +60,7 @@ decimal-plain = decimal-by-steps (λ _ ds. All (λ b. plain b ≡ true) ds)
     (λ n h. (digit-plain n h, tt))
     (λ n ds _ a. all-push (λ b. plain b ≡ true) ds (48 + n % 10) a (digit-plain (n % 10) (omega arith)))
 
+-- the laws of per-mille forms
 pub mille-forms : Forms mille-bytes 4
 mille-forms = record {
   word = λ m. record {

@@ -1,5 +1,5 @@
 -- Writing bytes into a buffer. Assumes nothing.
-use mathlib.Core.Path.{_≡_, sym, ap, subst, _∙_}
+use mathlib.Core.Path.{_≡_, refl, sym, ap, subst, _∙_}
 use mathlib.Core.List.{List, _++_, append-assoc}
 use Prim.Native.Nat.{ℕ, _+_, _-_, _≤_}
 use native.Mathlib.Omega.{arith}
@@ -43,9 +43,9 @@ module _ (before : List ℕ) (at : ℕ) (bytes : List ℕ) (room : at + length b
 pub overwrite-append : (before : List ℕ) (at : ℕ) (u v : List ℕ) → at + length u ≤ length before → overwrite (overwrite before at u) (at + length u) v ≡ overwrite before at (u ++ v)
 overwrite-append before at u v room =
     let n : at + length u + length v ≡ at + length (u ++ v) = omega (arith, length-append u v) in
-    let t = take-overwrite before at u room (at + length u) (λ i. at + length u) in
+    let t = take-overwrite before at u room (at + length u) refl in
     let o = drop-drop (length v) (at + length u) (overwrite before at u) in
-    let d = sym o ∙ ap (drop (length v)) (drop-overwrite before at u room (at + length u) (λ i. at + length u)) ∙ drop-drop (length v) (at + length u) before ∙ ap (λ k. drop k before) n in
+    let d = sym o ∙ ap (drop (length v)) (drop-overwrite before at u room (at + length u) refl) ∙ drop-drop (length v) (at + length u) before ∙ ap (λ k. drop k before) n in
     ap (λ f. f ++ (v ++ drop (at + length u + length v) (overwrite before at u))) t
     ∙ ap (λ r. (take at before ++ u) ++ (v ++ r)) d
     ∙ append-assoc (take at before) u (v ++ drop (at + length (u ++ v)) before)
@@ -69,9 +69,11 @@ printed-then before middle after at mid None u v room (em, rm, wm) (short, same)
 pub printed-same : (u v : List ℕ) (at : ℕ) (before after : List ℕ) (r : Option ℕ) → Printed v at before after r → u ≡ v → Printed u at before after r
 printed-same u v at before after r p e = subst (λ bytes. Printed bytes at before after r) (sym e) p
 
+-- a refused read
 pub unread : {M : Type 0} (bytes : M → List ℕ) (word : List ℕ) (r : Option M) → r ≡ None → ((m : M) → word ≡ bytes m → ⊥) → Reads bytes word r
 unread bytes word r e h = subst (Reads bytes word) (sym e) h
 
+-- what was printed is read back as the mark that it was
 pub round-trip : {M : Type 0} {bytes : M → List ℕ} {width : ℕ} → Forms bytes width → RoundTrip bytes
 round-trip {bytes = bytes} forms m at end before after (Some n) (e, room, w) h =
     ap Some (forms .distinct n m (sym h ∙ ap (λ b. take (end - at) (drop at b)) w ∙ between-overwrite before at (bytes m) (omega arith) end e))

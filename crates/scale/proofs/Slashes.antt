@@ -32,6 +32,7 @@ cut-once (b ∷ u) (b′ ∷ u′) v v′ p p′ e =
     let r = cut-once u u′ v v′ (p .1) (p′ .1) t in
     let first = r .0 in (cc, r .1)
 
+-- two forms with a slash between have a slash
 has-slash : (u v : List ℕ) → NoSlash (u ++ (slash ∷ v)) → ⊥
 has-slash [] v p = p .0 refl
 has-slash (b ∷ u) v p = has-slash u v (p .1)
@@ -53,6 +54,7 @@ ranked-distinct a b e =
 ranked-within : (m : Pair Grade PerMille) → length (ranked-bytes m) ≤ 12
 ranked-within m = omega (arith, length-ranked m, grade-forms .within (m .first), mille-forms .within (m .second))
 
+-- the laws of ranked forms
 pub ranked-forms : Forms ranked-bytes 12
 ranked-forms = record {
   word = λ m. record {
