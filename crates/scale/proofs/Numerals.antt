@@ -11,7 +11,7 @@ use Rattle.std.specs.shelf.Lists.{All}
 use Rattle.std.proofs.shelf.Decimals.{decimal-digit, decimal-step, decimal-by-steps, decimal-some, length-decimal-le, same-from-decimal}
 use Rattle.std.proofs.shelf.Elements.{all-push}
 use Rattle.std.proofs.shelf.Ways.{tells}
-use Rattle.scale.specs.Thousandths.{digit, figure, thousandths, mille-bytes, Form}
+use Rattle.scale.specs.Thousandths.{digit, figure, thousandths, mille-bytes, FormArray}
 use Rattle.scale.specs.Words.{plain}
 use Rattle.scale.specs.Forms.{Forms}
 use Rattle.scale.specs.declared.digits.Digit.{Digit}
@@ -48,7 +48,7 @@ module _ (h t o : Digit) where
       decimal-three (thousandths (Digits h t o)) lo (omega arith) ∙ λ i. (48 + eh i) ∷ (48 + et i) ∷ (48 + eo i) ∷ []
 
 -- an array that begins with a form
-pub form-of : (bytes array : List ℕ) (len : ℕ) → bytes ≡ take len array → len ≤ 4 → len ≤ length array → Form bytes array len
+pub form-of : (bytes array : List ℕ) (len : ℕ) → bytes ≡ take len array → len ≤ 4 → len ≤ length array → FormArray bytes array len
 form-of bytes array len e short fits = record { begins = sym e; long = sym (ap length e ∙ length-take-le len array fits); short = short }
 
 -- every byte of a number is a digit's, so its form is a word

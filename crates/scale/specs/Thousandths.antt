@@ -45,7 +45,7 @@ abbrev pub mille-bytes : PerMille → List ℕ
 mille-bytes m = decimal (thousandths m)
 
 -- an array of four bytes that begins with a form, and the form's length
-pub record Form (bytes array : List ℕ) (len : ℕ) : Type 0 where
+pub record FormArray (bytes array : List ℕ) (len : ℕ) : Type 0 where
   pub begins : take len array ≡ bytes
   pub long : len ≡ length bytes
   pub short : len ≤ 4

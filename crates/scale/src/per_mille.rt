@@ -5,12 +5,12 @@ ghost use lib.ListN.{length, getD};
 ghost use Rattle.std.specs.Options.{Cases};
 ghost use Rattle.std.specs.Orderings.{Decides};
 ghost use Rattle.std.specs.Written.{decimal};
-ghost use Rattle.scale.specs.Thousandths.{thousandths, mille-order, mille-bytes, Whole, Form};
+ghost use Rattle.scale.specs.Thousandths.{thousandths, mille-order, mille-bytes, Whole, FormArray};
 use super::digits::Digit;
+use super::digits::DigitPartialEq;
 use super::order::Scale;
 use super::writing::Written;
 use super::writing::put;
-use crate::digits::DigitPartialEq;
 
 // A whole number from 0 to 1000: the thousand, or three digits, the hundreds first.
 #[derive(Clone, Copy, PartialEq, Eq)]
@@ -48,7 +48,7 @@ impl PerMille {
 
     // The bytes of the written form, at the start of four, and how many there are.
     fn form(self) -> ([u8; 4], usize)
-        ensures { λ r. ⌜ Form (mille-bytes self) (r .0) (r .1) ⌝ }
+        ensures { λ r. ⌜ FormArray (mille-bytes self) (r .0) (r .1) ⌝ }
     {
         let PerMille::Digits(hundreds, tens, ones) = self else {
             return (*b"1000", 4);
@@ -104,8 +104,9 @@ pub impl Written for PerMille as PerMilleWritten {
     }
 }
 
-// Whether a word of more than one byte begins with a byte above `0`: `parse` takes leading zeros and a plus too.
-fn leads_well(word: &[u8]) -> bool
+// Whether a word begins as a decimal number in canonical form does: with a byte above `0` if it has more than one
+// byte. `parse` takes leading zeros and a plus too.
+fn has_canonical_start(word: &[u8]) -> bool
     ensures { λ r. ⌜ Decides r (1 < length (now (word .entry)) → 48 < getD (now (word .entry)) 0 0) ⌝ }
 {
     word.len() <= 1 || word[0] > b'0'
@@ -115,7 +116,7 @@ fn leads_well(word: &[u8]) -> bool
 fn read_decimal(word: &[u8]) -> Option<u16>
     ensures { λ r. ⌜ Cases r ((n : ℕ) → n < 2 ^ 16 → now (word .entry) ≡ decimal n → ⊥) (λ n. now (word .entry) ≡ decimal n) ⌝ }
 {
-    if !leads_well(word) {
+    if !has_canonical_start(word) {
         return None;
     }
     let text = std::str::from_utf8(word).ok()?;
