@@ -40,9 +40,12 @@ def respelled(text):
 
 
 def code(text):
-    """A source or a proof file: all but its comments and its strings."""
+    """A source or a proof file: all but its comments, its strings and the library's names."""
     out = []
     for line in text.split("\n"):
+        if "use Rattle.std." in line:
+            out.append(re.sub(r"(?<= as )[^ ,}]+", lambda m: respelled(m.group(0)), line))
+            continue
         parts = re.split(r'("(?:[^"\\\\]|\\\\.)*"|//.*$|--\s.*$)', line)
         out.append("".join(p if i % 2 else respelled(p) for i, p in enumerate(parts)))
     return "\n".join(out)

@@ -1,4 +1,6 @@
-// Catalogues of cards: built, filled, classified and asked.
+//! Catalogues of cards: built, filled, classified and asked.
+#![tactic(auto)]
+
 mod calls;
 mod cells;
 mod refusals;

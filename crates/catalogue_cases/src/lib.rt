@@ -1,3 +1,5 @@
-// Cases of the calls on a catalogue.
+//! Cases of the calls on a catalogue.
+#![tactic(auto)]
+
 #[cfg(test)]
 mod tests;

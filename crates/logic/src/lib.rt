@@ -1,4 +1,6 @@
-// Cards, and what follows from them: derivations, the closure, best marks.
+//! Cards, and what follows from them: derivations, the closure, best marks.
+#![tactic(auto)]
+
 mod cards;
 
 pub use cards::{ANY, Card, NONE, Statement};

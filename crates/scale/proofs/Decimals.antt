@@ -6,7 +6,7 @@ use Rattle.scale.specs.Forms.{Reads}
 use Rattle.scale.specs.Thousandths.{thousandths, mille_bytes}
 use Rattle.scale.specs.declared.per_mille.PerMille.{PerMille}
 use Rattle.scale.specs.Marks.{mille_within}
-use Rattle.std.proofs.lemmas.Fmt.{decimal_injective, decimal_digit, first_decimal, IsAscii-decimal, parse_decimal as parses_back, decimal-digits_value}
+use Rattle.std.proofs.lemmas.Fmt.{decimal_injective, decimal_digit, first_decimal, IsAscii-decimal, parse-decimal as parses_back, decimal-digits_value}
 use Rattle.std.proofs.lemmas.Str.Parse.{without_leading_plus_none, without_leading_plus_plus, numerals_by_value, tells_digits}
 use Rattle.std.proofs.lemmas.Bool.{cases_eq, cases_lt}
 use Rattle.std.proofs.lemmas.Str.{IsUtf8-from_ascii}

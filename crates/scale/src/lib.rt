@@ -1,4 +1,6 @@
-// Scales of marks, and how marks are written.
+//! Scales of marks, and how marks are written.
+#![tactic(auto)]
+
 mod digits;
 mod grades;
 mod order;

@@ -1,4 +1,6 @@
-// A tour of the scales: on each of them, the strength of a short route of surfaces.
+//! A tour of the scales: on each of them, the strength of a short route of surfaces.
+#![tactic(auto)]
+
 mod route;
 
 use anyhow::Context;

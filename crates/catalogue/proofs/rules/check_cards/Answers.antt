@@ -18,7 +18,7 @@ pub loop-place-preserved : goal.loop-place-preserved
 loop-place-preserved g c =
     let t = c.loop-place in
     let card = c.index-cards-place in
-    sym (verdict_fine c.args.cards.now t.place card.result c.loop-place-test.true card.is g.S.Scale.order c.args.size.n c.args.size.k c.in-default.ensures) ∙ t.invariant
+    sym (verdict_fine c.args.cards.now t.place card.result c.loop-place-test.true card.is g.S.Scale.order c.args.size.n c.args.size.k c.in_default.ensures) ∙ t.invariant
 
 pub returns : goal.returns
 returns g c = sym (ap (cards_verdict g.S.Scale.order c.args.size.n c.args.size.k c.loop-place.place) (drop_all c.loop-place.place c.args.cards.now c.loop-place-test.false)) ∙ c.loop-place.invariant

@@ -11,7 +11,7 @@ pub loop-y-preserved : goal.loop-y-preserved
 loop-y-preserved g c =
     let a = c.args in
     let t = c.loop-y in
-    let up = c.chain-over-rose in
+    let up = c.chain_over-rose in
     turn_one g.met.S.Scale.laws (chain a.card.first a.card.second a.card.third a.card.mark ∷ []) (link_of a.size.n)
     (λ links y. (z : ℕ) → z < a.size.n → ChainMet g.S.Scale.order a.size.n links a.x y z a.card.first a.card.second a.card.third a.card.mark)
     a.links.now t.links up.new.links t.y t.rose up.result t.invariant (up.ensures.raises, up.ensures.asks)

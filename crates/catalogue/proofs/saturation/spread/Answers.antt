@@ -8,8 +8,8 @@ use Rattle.catalogue.proofs.saturation.spread.Goals as goal
 pub loop-place-init : goal.loop-place-init
 loop-place-init g c = (both_none g.met.S.Scale.laws [] c.args.pairs.now c.args.links.now, λ e j h. absurd (omega arith))
 
-pub spread-at-rose-requires : goal.spread-at-rose-requires
-spread-at-rose-requires g c =
+pub spread_at-rose-requires : goal.spread_at-rose-requires
+spread_at-rose-requires g c =
     let f = c.requires.fit in
     let t = c.loop-place in
     let lt : t.place < c.args.size.k * c.args.size.n * c.args.size.n = let e = f.link_size in omega arith in
@@ -23,7 +23,7 @@ loop-place-preserved g c =
     let C = g.S.Scale.order in
     let a = c.args in
     let t = c.loop-place in
-    let up = c.spread-at-rose in
+    let up = c.spread_at-rose in
     turn_both g.met.S.Scale.laws [] (λ pairs links j. Spreads C a.size.n (cells C a.size.n pairs links) (j / a.size.n % a.size.n) (j / a.size.n / a.size.n) (j % a.size.n))
     a.pairs.now a.links.now t.pairs t.links up.new.pairs up.new.links t.place t.rose up.result t.invariant (up.ensures.raises, up.ensures.spreads)
 

@@ -10,13 +10,13 @@ use Rattle.catalogue.proofs.Rising.{both_none, both_more, both_pair}
 use Rattle.catalogue.proofs.Reading.{pair_derived, link_derived, at_pair}
 use Rattle.catalogue.proofs.saturation.spread_at.Goals as goal
 
-pub returns-then-at-most : goal.returns-then-at-most
-returns-then-at-most g c =
+pub returns-then-at_most : goal.returns-then-at_most
+returns-then-at_most g c =
     let C = g.S.Scale.order in
     let laws = g.met.S.Scale.laws in
     let a = c.args in
     let known : AtMost C (link_cell C a.size.n a.links.now a.x a.r a.y) C.low =
-    ap (λ m. C.leq m C.low) (sym c.link-at-known.ensures) ∙ ap (C.leq c.link-at-known.result) (sym c.lowest.ensures) ∙ sym c.at-most.ensures ∙ c.if-at-most.true in
+    ap (λ m. C.leq m C.low) (sym c.link_at-known.ensures) ∙ ap (C.leq c.link_at-known.result) (sym c.lowest.ensures) ∙ sym c.at_most.ensures ∙ c.if-at_most.true in
     record {
       raises = both_none laws [] a.pairs.now a.links.now;
       spreads = λ e. record { widens = λ z h ne. lower_of_low laws _ _ _ known; falls = lower_of_low laws _ _ _ known };
@@ -24,7 +24,7 @@ returns-then-at-most g c =
 
 pub widen-widened-requires : goal.widen-widened-requires
 widen-widened-requires g c =
-    record { fit = refit c.requires.fit c.raise-pair-fell.auto.pairs refl; inside = c.requires.inside }
+    record { fit = refit c.requires.fit c.raise_pair-fell.auto.pairs refl; inside = c.requires.inside }
 
 pub returns : goal.returns
 returns g c =
@@ -33,12 +33,12 @@ returns g c =
     let a = c.args in
     let f = c.requires.fit in
     let (hx, hr, hy) = c.requires.inside in
-    let fell = c.raise-pair-fell in
+    let fell = c.raise_pair-fell in
     let wide = c.widen-widened in
     let p = both_pair laws [] (λ pairs links. lower C (link_cell C a.size.n links a.x a.r a.y) (pair_cell C a.size.n pairs a.y none))
     a.pairs.now a.links.now fell.new.pairs (a.x * a.size.n + none) c.lower.result fell.result
     (let h = pair_inside a.size.n a.x none hx c.args.size.limits.0 in let e = f.pair_size in omega arith)
-    (c.lower.ensures.value ∙ (λ i. lower C (c.link-at-known.ensures i) (c.pair-at-impossible.ensures i)))
+    (c.lower.ensures.value ∙ (λ i. lower C (c.link_at-known.ensures i) (c.pair_at-impossible.ensures i)))
     (λ axioms i pairs links. at_pair a.x none c.args.size.limits.0 (fall (link_derived a.links.now a.x a.r a.y f.link_size hx hr hy links) (pair_derived a.pairs.now a.y none f.pair_size hy c.args.size.limits.0 pairs)))
     fell.ensures in
     record {

@@ -15,9 +15,9 @@ loop-x-preserved g c =
     let C = g.S.Scale.order in
     let t = c.loop-x in
     let size : length t.pairs ≡ c.args.size.n * c.args.size.n = t.auto.pairs ∙ c.fill.auto.cells ∙ c.requires in
-    started_more g.met.S.Scale.laws t.pairs c.raise-pair.new.pairs c.raise-pair-in-loop-x.new.pairs t.x c.raise-pair.result c.raise-pair-in-loop-x.result c.args.size.limits.0 size c.loop-x-test.true
-    (subst (λ m. Raised C t.pairs (t.x * c.args.size.n + t.x) m c.raise-pair.new.pairs c.raise-pair.result) c.highest.ensures c.raise-pair.ensures)
-    (subst (λ m. Raised C c.raise-pair.new.pairs (t.x * c.args.size.n + any) m c.raise-pair-in-loop-x.new.pairs c.raise-pair-in-loop-x.result) c.highest-in-loop-x.ensures c.raise-pair-in-loop-x.ensures)
+    started_more g.met.S.Scale.laws t.pairs c.raise_pair.new.pairs c.raise_pair-in-loop-x.new.pairs t.x c.raise_pair.result c.raise_pair-in-loop-x.result c.args.size.limits.0 size c.loop-x-test.true
+    (subst (λ m. Raised C t.pairs (t.x * c.args.size.n + t.x) m c.raise_pair.new.pairs c.raise_pair.result) c.highest.ensures c.raise_pair.ensures)
+    (subst (λ m. Raised C c.raise_pair.new.pairs (t.x * c.args.size.n + any) m c.raise_pair-in-loop-x.new.pairs c.raise_pair-in-loop-x.result) c.highest-in-loop-x.ensures c.raise_pair-in-loop-x.ensures)
     t.invariant
 
 pub returns : goal.returns

@@ -9,7 +9,7 @@ use Rattle.catalogue.proofs.Rising.{both_more, both_fewer}
 use Rattle.catalogue.proofs.saturation.sweep.Goals as goal
 
 pub spread-widened-requires : goal.spread-widened-requires
-spread-widened-requires g c = record { fit = refit c.requires.fit c.apply-all-applied.auto.pairs c.apply-all-applied.auto.links }
+spread-widened-requires g c = record { fit = refit c.requires.fit c.apply_all-applied.auto.pairs c.apply_all-applied.auto.links }
 
 pub returns : goal.returns
 returns g c =
@@ -17,7 +17,7 @@ returns g c =
     let laws = g.met.S.Scale.laws in
     let a = c.args in
     let all = axioms a.cards.now in
-    let one = c.apply-all-applied in
+    let one = c.apply_all-applied in
     let two = c.spread-widened in
     record {
       raises = both_more laws all a.pairs.now a.links.now one.new.pairs one.new.links two.new.pairs two.new.links one.result two.result one.ensures.raises

@@ -19,7 +19,7 @@ loop-y-preserved g c =
     let laws = g.met.S.Scale.laws in
     let a = c.args in
     let t = c.loop-y in
-    let up = c.raise-link-rose in
+    let up = c.raise_link-rose in
     let (hx, hr, hs) = c.requires.inside in
     let hy = c.loop-y-test.true in
     let size = t.auto.links ∙ c.requires.long in
@@ -29,6 +29,6 @@ loop-y-preserved g c =
     (raises_one laws (under a.card.first a.card.second a.card.mark ∷ []) (link_of a.size.n) (λ links. lower C (link_cell C a.size.n links a.x a.card.first t.y) a.card.mark)
     t.links up.new.links ((a.card.second * a.size.n + a.x) * a.size.n + t.y) c.lower.result up.result
     (let h = link_inside a.size.n a.size.k a.x a.card.second t.y hx hs hy in omega arith)
-    (c.lower.ensures.value ∙ ap (λ m. lower C m a.card.mark) c.link-at-known.ensures)
+    (c.lower.ensures.value ∙ ap (λ m. lower C m a.card.mark) c.link_at-known.ensures)
     (λ axioms i d. at_link a.x a.card.second t.y hx hy (by_under (i _ (Memᴰ.head refl)) (link_derived t.links a.x a.card.first t.y size hx hr hy d)))
     up.ensures)

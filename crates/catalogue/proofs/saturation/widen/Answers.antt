@@ -7,8 +7,8 @@ use Rattle.catalogue.proofs.saturation.widen.Goals as goal
 pub loop-z-init : goal.loop-z-init
 loop-z-init g c = (both_none g.met.S.Scale.laws [] c.args.pairs.now c.args.links.now, λ e z h. absurd (omega arith))
 
-pub widen-to-rose-requires : goal.widen-to-rose-requires
-widen-to-rose-requires g c =
+pub widen_to-rose-requires : goal.widen_to-rose-requires
+widen_to-rose-requires g c =
     let (hx, hr, hy) = c.requires.inside in
     record { fit = refit c.requires.fit refl c.loop-z.auto.links; inside = (hx, hr, hy, c.loop-z-test.true) }
 
@@ -16,7 +16,7 @@ pub loop-z-preserved : goal.loop-z-preserved
 loop-z-preserved g c =
     let a = c.args in
     let t = c.loop-z in
-    let up = c.widen-to-rose in
+    let up = c.widen_to-rose in
     turn_both g.met.S.Scale.laws [] (λ pairs links z. Widens g.S.Scale.order a.size.n pairs links a.x a.r a.y z)
     a.pairs.now a.links.now a.pairs.now t.links a.pairs.now up.new.links t.z t.rose up.result t.invariant (up.ensures.raises, up.ensures.widens)
 

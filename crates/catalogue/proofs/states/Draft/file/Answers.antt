@@ -16,13 +16,13 @@ returns-then-cards-self g c =
     let all = c.args.cards.now in
     record { filed = (file_length g.S.Scale.order w (length all) (take w.f all) c.args.card c.if-cards-self.true, refl, refl); kept = kept_in_words g.S.Scale.order; stands = stands_in_words _ }
 
-pub returns-in-err-check-card : goal.returns-in-err-check-card
-returns-in-err-check-card g c =
+pub returns-in_err-check_card : goal.returns-in_err-check_card
+returns-in_err-check_card g c =
     let w = of_draft c.args.self.now in
     let all = c.args.cards.now in
-    let p = err_from_is_err_and c.from-residual.result c.from-residual.ensures.1 in
+    let p = err_from_is_err_and c.from_residual.result c.from_residual.ensures.1 in
     record {
-      filed = rw (p.1, p.2) ((file_broken g.S.Scale.order w (length all) (take w.f all) c.args.card c.if-cards-self.false _ c.in-err-check-card.ensures, refl, refl));
+      filed = rw (p.1, p.2) ((file_broken g.S.Scale.order w (length all) (take w.f all) c.args.card c.if-cards-self.false _ c.in_err-check_card.ensures, refl, refl));
       kept = kept_in_words g.S.Scale.order;
       stands = stands_in_words _;
     }
@@ -31,15 +31,15 @@ returns-in-err-check-card g c =
 tested : {M : Type 0} (f c long : ℕ) (standing : List (Card M)) (s t : Statement) → s ≡ t → long ≡ c → room_verdict f long standing s ≡ room_verdict f c standing t
 tested f c long standing s t e l i = room_verdict f (l i) standing (e i)
 
-pub returns-in-err-check-room : goal.returns-in-err-check-room
-returns-in-err-check-room g c =
+pub returns-in_err-check_room : goal.returns-in_err-check_room
+returns-in_err-check_room g c =
     let w = of_draft c.args.self.now in
     let all = c.args.cards.now in
     let long = c.if-cards-self.false in
-    let p = err_from_is_err_and c.from-residual-in-err-check-room.result c.from-residual-in-err-check-room.ensures.1 in
-    let room = c.in-err-check-room.ensures ∙ tested w.f w.c (length all) (take w.f all) c.statement-statement.result (statement_of c.args.card) c.statement-statement.ensures long in
+    let p = err_from_is_err_and c.from_residual-in_err-check_room.result c.from_residual-in_err-check_room.ensures.1 in
+    let room = c.in_err-check_room.ensures ∙ tested w.f w.c (length all) (take w.f all) c.statement-statement.result (statement_of c.args.card) c.statement-statement.ensures long in
     record {
-      filed = rw (p.1, p.2) ((file_room g.S.Scale.order w (length all) (take w.f all) c.args.card long _ c.in-ok-check-card.ensures room, refl, refl));
+      filed = rw (p.1, p.2) ((file_room g.S.Scale.order w (length all) (take w.f all) c.args.card long _ c.in_ok-check_card.ensures room, refl, refl));
       kept = kept_in_words g.S.Scale.order;
       stands = stands_in_words _;
     }
@@ -49,9 +49,9 @@ returns g c =
     let w = of_draft c.args.self.now in
     let all = c.args.cards.now in
     let long = c.if-cards-self.false in
-    let room = c.in-ok-check-room.ensures ∙ tested w.f w.c (length all) (take w.f all) c.statement-statement.result (statement_of c.args.card) c.statement-statement.ensures long in
+    let room = c.in_ok-check_room.ensures ∙ tested w.f w.c (length all) (take w.f all) c.statement-statement.result (statement_of c.args.card) c.statement-statement.ensures long in
     record {
-      filed = (file_room g.S.Scale.order w (length all) (take w.f all) c.args.card long _ c.in-ok-check-card.ensures room, refl, c.write-card.ensures);
+      filed = (file_room g.S.Scale.order w (length all) (take w.f all) c.args.card long _ c.in_ok-check_card.ensures room, refl, c.write_card.ensures);
       kept = kept_in_words g.S.Scale.order;
       stands = stands_in_words _;
     }

@@ -9,11 +9,11 @@ pub returns : goal.returns
 returns c =
     let grade = grade_bytes c.args.self.first in
     let mille = mille_bytes c.args.self.second in
-    let all = c.in-ok-end-of.ensures in
+    let all = c.in_ok-end_of.ensures in
     let long = length-append grade (slash ∷ mille) in
     let front = length-append grade (slash ∷ []) in
-    let head = printed_append c.args.out.now c.print.new.out c.put.new.out c.args.at c.in-ok-cut.cut c.in-ok-rest.rest grade (slash ∷ []) c.in-ok-cut.ensures c.in-ok-rest.ensures in
+    let head = printed_append c.args.out.now c.print.new.out c.put.new.out c.args.at c.in_ok-cut.cut c.in_ok-rest.rest grade (slash ∷ []) c.in_ok-cut.ensures c.in_ok-rest.ensures in
     let room : c.args.at + length (grade ++ (slash ∷ [])) + length mille ≤ length c.args.out.now = omega arith in
     printed_same _ ((grade ++ (slash ∷ [])) ++ mille) _ _ _ _
-    (printed_then c.args.out.now c.put.new.out c.print-2.new.out c.args.at c.in-ok-rest.rest c.print-2.result (grade ++ (slash ∷ [])) mille room head c.print-2.ensures)
+    (printed_then c.args.out.now c.put.new.out c.print-2.new.out c.args.at c.in_ok-rest.rest c.print-2.result (grade ++ (slash ∷ [])) mille room head c.print-2.ensures)
     (sym (append_assoc grade (slash ∷ []) mille))

@@ -31,14 +31,14 @@ returns g c =
     let b = bytes c.args.self.second in
     let s = bytes c.strength-strength.result in
     let told = ap bytes c.strength-strength.ensures in
-    let p₁ = c.in-ok-at.ensures in
-    let p₂ = printed_append c.args.out.now c.print.new.out c.put.new.out 0 c.in-ok-at.at c.in-ok-at-2.at a (codes " then ") p₁ c.in-ok-at-2.ensures in
-    let p₃ = printed_append c.args.out.now c.put.new.out c.print-2.new.out 0 c.in-ok-at-2.at c.in-ok-at-3.at (a ++ codes " then ") b p₂ c.in-ok-at-3.ensures in
-    let p₄ = printed_append c.args.out.now c.print-2.new.out c.put-2.new.out 0 c.in-ok-at-3.at c.in-ok-at-4.at ((a ++ codes " then ") ++ b) (codes " gives ") p₃ c.in-ok-at-4.ensures in
-    let p₅ = printed_append c.args.out.now c.put-2.new.out c.print-3.new.out 0 c.in-ok-at-4.at c.in-ok-at-5.at (((a ++ codes " then ") ++ b) ++ codes " gives ") s p₄ c.in-ok-at-5.ensures in
+    let p₁ = c.in_ok-at.ensures in
+    let p₂ = printed_append c.args.out.now c.print.new.out c.put.new.out 0 c.in_ok-at.at c.in_ok-at-2.at a (codes " then ") p₁ c.in_ok-at-2.ensures in
+    let p₃ = printed_append c.args.out.now c.put.new.out c.print-2.new.out 0 c.in_ok-at-2.at c.in_ok-at-3.at (a ++ codes " then ") b p₂ c.in_ok-at-3.ensures in
+    let p₄ = printed_append c.args.out.now c.print-2.new.out c.put-2.new.out 0 c.in_ok-at-3.at c.in_ok-at-4.at ((a ++ codes " then ") ++ b) (codes " gives ") p₃ c.in_ok-at-4.ensures in
+    let p₅ = printed_append c.args.out.now c.put-2.new.out c.print-3.new.out 0 c.in_ok-at-4.at c.in_ok-at-5.at (((a ++ codes " then ") ++ b) ++ codes " gives ") s p₄ c.in_ok-at-5.ensures in
     let long = length_line a b s in
     let whole = ap length (line_pieces a b s) in
     let parts = length-append ((((a ++ codes " then ") ++ b) ++ codes " gives ") ++ s) (10 ∷ []) in
     printed_same (route_line order bytes c.args.self) (((((a ++ codes " then ") ++ b) ++ codes " gives ") ++ s) ++ (10 ∷ [])) 0 c.args.out.now c.put-3.new.out c.put-3.result
-    (printed_then c.args.out.now c.print-3.new.out c.put-3.new.out 0 c.in-ok-at-5.at c.put-3.result ((((a ++ codes " then ") ++ b) ++ codes " gives ") ++ s) (10 ∷ []) (omega arith) p₅ c.put-3.ensures)
+    (printed_then c.args.out.now c.print-3.new.out c.put-3.new.out 0 c.in_ok-at-5.at c.put-3.result ((((a ++ codes " then ") ++ b) ++ codes " gives ") ++ s) (10 ∷ []) (omega arith) p₅ c.put-3.ensures)
     (ap (line a b) (sym told) ∙ line_pieces a b s)
