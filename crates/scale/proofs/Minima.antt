@@ -1,5 +1,5 @@
 -- What the laws of a scale give of its order and of the lower of two marks. Assumes nothing.
-use Rattle.std.proofs.Common.{◌≡◌, true, false, inl, inr}
+use Rattle.std.proofs.Common.{◌≡◌, false, inl, inr}
 use Rattle.std.proofs.lemmas.Bool.{both_ways, cond_both}
 use Rattle.scale.specs.Order.{Chain, AtMost, Laws, lower}
 

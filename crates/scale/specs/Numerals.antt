@@ -1,7 +1,7 @@
 -- Per-mille marks in decimal. Assumes nothing.
 use Rattle.std.specs.Prelude.{◌≡◌, ℕ, ◌+◌, ◌/◌, ◌%◌, ◌^◌, ◌<◌, ◌≤◌, true, List, [], ◌∷◌, ◌++◌, length, take, decimal}
 use Rattle.std.proofs.Common.{sym, ap, ◌∙◌, arith, length-take-le}
-use Rattle.std.specs.List.{AllByRecursion as All}
+use Rattle.std.specs.List.{AllByRecursion}
 use Rattle.std.proofs.lemmas.Fmt.{decimal_digit, decimal_step, decimal_by_steps, decimal_nonempty, length-decimal-le, decimal_injective}
 use Rattle.std.proofs.ByRecursion.{All-push}
 use Rattle.std.proofs.lemmas.Bool.Decides.{nat_tests}
@@ -49,8 +49,8 @@ form_of bytes array len e short fits = record { begins = sym e; long = sym (ap l
 digit_plain : (b : ℕ) → b < 10 → plain (48 + b) ≡ true
 digit_plain b h = grind (arith, nat_tests)
 
-decimal_plain : (n : ℕ) → n < 2 ^ 64 → All (λ b. plain b ≡ true) (decimal n)
-decimal_plain = decimal_by_steps (λ _ ds. All (λ b. plain b ≡ true) ds)
+decimal_plain : (n : ℕ) → n < 2 ^ 64 → AllByRecursion (λ b. plain b ≡ true) (decimal n)
+decimal_plain = decimal_by_steps (λ _ ds. AllByRecursion (λ b. plain b ≡ true) ds)
     (λ n h. (digit_plain n h, tt))
     (λ n ds _ a. All-push (λ b. plain b ≡ true) ds (48 + n % 10) a (digit_plain (n % 10) (omega arith)))
 

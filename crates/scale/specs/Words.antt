@@ -1,6 +1,6 @@
 -- Words: what the lines of a sheet are made of, and what a written mark is. Assumes nothing.
 use Rattle.std.specs.Prelude.{◌≡◌, ℕ, ◌≤◌, Bool, true, ◌&&◌, ◌||◌, List, length, ◌==◌, ◌≢◌, nat_le}
-use Rattle.std.specs.List.{AllByRecursion as All}
+use Rattle.std.specs.List.{AllByRecursion}
 
 -- the byte of `/`
 abbrev pub slash : ℕ
@@ -17,8 +17,8 @@ plain byte = in_range 65 90 byte || in_range 97 122 byte || in_range 48 57 byte 
 pub record Word (bytes : List ℕ) : Type 0 where
   pub some : 1 ≤ length bytes
   pub short : length bytes ≤ 24
-  pub plainly : All (λ byte. plain byte ≡ true) bytes
+  pub plainly : AllByRecursion (λ byte. plain byte ≡ true) bytes
 
 -- no slash among the bytes
 abbrev pub NoSlash : List ℕ → Type 0
-NoSlash bytes = All (λ byte. byte ≢ slash) bytes
+NoSlash bytes = AllByRecursion (λ byte. byte ≢ slash) bytes
