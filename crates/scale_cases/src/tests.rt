@@ -73,7 +73,7 @@ fn both_ways<S: Written + PartialEq>(rt: &impl Abort, mark: S, word: &[u8]) -> R
     let end = mark.print(&mut out, 3).ok_or("room for every form")?;
     assert!(rt; 3 <= end && end <= 20);
     assert!(rt; &out[3..end] == word);
-    assert!(rt; &out[0..3] == b"...");
+    assert!(rt; &out[0..3] == b"...".as_slice());
     assert!(rt; &out[end..] == &[b'.'; 20][end..]);
     assert!(rt; read_back(mark, &mut out, 8) == Some(mark));
     Ok(())
