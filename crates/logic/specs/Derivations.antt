@@ -1,5 +1,5 @@
 -- Derivations of marks for cells, and the closure (the saturation) of a list of axioms. Assumes nothing.
-use Rattle.std.specs.Prelude.{◌≡◌, ℕ, ◌<◌, List, ◌≢◌}
+use Rattle.std.specs.Prelude.{ℕ, ◌<◌, List, ◌≢◌}
 use Rattle.scale.specs.Order.{Chain, AtMost, lower}
 use Rattle.logic.specs.Axioms.{Axiom, is, both, has, from, under, chain, any, none, In}
 

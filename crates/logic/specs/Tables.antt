@@ -1,5 +1,5 @@
 -- Tables of marks: those that meet the rules, the least of them, and the saturated one. Assumes nothing.
-use Rattle.std.specs.Prelude.{◌≡◌, ℕ, ◌<◌, List, ◌≢◌}
+use Rattle.std.specs.Prelude.{ℕ, ◌<◌, List, ◌≢◌}
 use Rattle.scale.specs.Order.{Chain, AtMost, lower}
 use Rattle.logic.specs.Axioms.{Axiom, is, both, has, from, under, chain, any, none, In}
 use Rattle.logic.specs.Derivations.{Cell, pair, link, Within, Closure}
