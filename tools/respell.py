@@ -2,7 +2,8 @@
 """Brings the names of the repository's own definitions and lemmas to today's spelling: words in snake case.
 
 Run once at the top of the repository, after /opt/rattle/port/port.py. Names that join a lemma's left side, as
-`length-overwrite`, keep their dash; names that Rattle makes, as `loop-x-init`, are not touched.
+`length-overwrite`, keep their dash; names that Rattle makes, as `loop-x-init`, are not touched; nor is docs/PORT.md, which
+sets the old names beside the new.
 """
 
 import os
@@ -77,4 +78,5 @@ def turn(path, how):
 for path in files((".rt", ".antt", ".edit"), "crates"):
     turn(path, code)
 for path in list(files((".md",), "docs")) + ["README.md"]:
-    turn(path, page)
+    if path != os.path.join("docs", "PORT.md"):
+        turn(path, page)

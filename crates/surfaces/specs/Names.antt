@@ -1,4 +1,4 @@
--- The names of the surfaces and links of the tour. Assumes nothing.
+-- The names of the surfaces and links of the program. Assumes nothing.
 use Rattle.std.specs.Prelude.{ℕ, List, [], ◌∷◌, codes, slice_index_or}
 
 abbrev pub terms : List (List ℕ)

@@ -1,5 +1,5 @@
-//! A tour of small catalogues of surfaces: each is built, filled with cards, classified and asked, and prints its cards
-//! and its answers.
+//! Small catalogues of surfaces: each is built, filled with cards, classified and asked, and prints its cards and its
+//! answers.
 #![tactic(auto)]
 
 mod lines;

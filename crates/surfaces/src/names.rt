@@ -1,4 +1,4 @@
-// The surfaces and links of the tour, and their names.
+// The surfaces and links of the program, and their names.
 ghost use Rattle.std.specs.Prelude.{◌≡◌};
 ghost use Rattle.surfaces.specs.Names.{terms, links, name};
 

@@ -1,4 +1,4 @@
-// The catalogues of the tour.
+// The catalogues that the program builds.
 use super::lines::{Answer, CardLine};
 use super::names::{COLD, FLOOR, ICE, MOSS, NEAR, OVER, RISKY, SLICK, SMOOTH, WET};
 use anyhow::Context;
