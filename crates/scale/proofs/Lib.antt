@@ -1,3 +1,4 @@
 pub mod Decimals
 pub mod Printing
 pub mod Minima
+pub mod Orders

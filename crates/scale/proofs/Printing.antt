@@ -1,14 +1,6 @@
 -- Writing bytes into a buffer. Assumes nothing.
 use Rattle.std.proofs.Common.{◌≡◌, ℕ, ◌+◌, ◌-◌, ◌≤◌, List, ◌++◌, length, take, drop, Some, None, Option, sym, refl, ap, ◌∙◌, subst, append_assoc, arith, length-append, length-drop, length-take-le, drop-drop, take_at, drop_at}
-use borrow.Rule.Slice.PartMut.{put_mid}
-use Rattle.scale.specs.Forms.{overwrite, Printed, Reads, Forms, RoundTrip}
-
--- a part of a buffer that is written as a whole
-pub part_overwrite : (before text part : List ℕ) (at end : ℕ) → part ≡ text → end ≡ at + length text → put_mid at (end - at) before part ≡ overwrite before at text
-part_overwrite before text part at end same e =
-    let n : end - at ≡ length text = omega arith in
-    let d = drop-drop (end - at) at before ∙ ap (λ k. drop (at + k) before) n in
-    ap (λ p. take at before ++ (p ++ drop (end - at) (drop at before))) same ∙ ap (λ r. take at before ++ (text ++ r)) d
+use Rattle.scale.specs.Forms.{overwrite, Printed, Forms, RoundTrip}
 
 module _ (before : List ℕ) (at : ℕ) (bytes : List ℕ) (room : at + length bytes ≤ length before) where
   front : length (take at before ++ bytes) ≡ at + length bytes
@@ -61,10 +53,6 @@ printed_then before middle after at mid None u v room (em, rm, wm) (short, same)
 -- a print of the same bytes
 pub printed_same : (u v : List ℕ) (at : ℕ) (before after : List ℕ) (r : Option ℕ) → Printed v at before after r → u ≡ v → Printed u at before after r
 printed_same u v at before after r p e = subst (λ bytes. Printed bytes at before after r) (sym e) p
-
--- a refused read
-pub unread : {M : Type 0} (bytes : M → List ℕ) (word : List ℕ) (r : Option M) → r ≡ None → ((m : M) → word ≡ bytes m → ⊥) → Reads bytes word r
-unread bytes word r e h = subst (Reads bytes word) (sym e) h
 
 -- what was printed is read back as the mark that it was
 pub round_trip : {M : Type 0} {bytes : M → List ℕ} {width : ℕ} → Forms bytes width → RoundTrip bytes

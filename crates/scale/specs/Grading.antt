@@ -4,7 +4,6 @@ use Rattle.scale.specs.Words.{NoSlash}
 use Rattle.scale.specs.Forms.{Forms}
 use Rattle.scale.specs.Grades.{grade_bytes}
 use Rattle.scale.specs.declared.grades.Grade.{Grade}
-use Rattle.scale.specs.declared.grades.Grade.TheVariants.{Absent, Trace, Partial, Strong, Full}
 
 -- the laws of the grades' forms
 pub grade_forms : Forms grade_bytes 7
@@ -12,8 +11,4 @@ grade_forms = search rules
 
 -- no grade's word has a slash
 pub grade_no_slash : (g : Grade) → NoSlash (grade_bytes g)
-grade_no_slash Absent = search rules
-grade_no_slash Trace = search rules
-grade_no_slash Partial = search rules
-grade_no_slash Strong = search rules
-grade_no_slash Full = search rules
+grade_no_slash = search rules

@@ -1,6 +1,6 @@
 -- Digits and per-mille marks as numbers. Assumes nothing.
 use Rattle.std.specs.Prelude.{◌≡◌, ℕ, zero, suc, ◌/◌, ◌%◌, ◌<◌, ◌≤◌, List, [], ◌∷◌, slice_index_or, refl}
-use Rattle.std.proofs.Common.{sym, ap, ◌∙◌, arith, inl, inr}
+use Rattle.std.proofs.Common.{sym, ap, ◌∙◌, arith, rules, inl, inr}
 use Rattle.std.proofs.lemmas.Bool.{cases_eq}
 use Rattle.scale.specs.Order.{Laws}
 use Rattle.scale.specs.Thousandths.{digit, thousandths, mille_order, Whole}
@@ -20,16 +20,7 @@ digit_of n = slice_index_or digit_list n Zero
 -- a digit has a number below ten, and is the digit of that number
 pub digit_facts : (d : Digit) → (digit d < 10) × (digit_of (digit d) ≡ d)
 unfolding digit_of digit_list
-digit_facts Zero = (omega arith, refl)
-digit_facts One = (omega arith, refl)
-digit_facts Two = (omega arith, refl)
-digit_facts Three = (omega arith, refl)
-digit_facts Four = (omega arith, refl)
-digit_facts Five = (omega arith, refl)
-digit_facts Six = (omega arith, refl)
-digit_facts Seven = (omega arith, refl)
-digit_facts Eight = (omega arith, refl)
-digit_facts Nine = (omega arith, refl)
+digit_facts = search rules
 
 pub digit_lt : (d : Digit) → digit d < 10
 digit_lt d = (digit_facts d).0

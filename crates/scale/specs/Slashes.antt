@@ -1,7 +1,6 @@
 -- Ranked marks: two forms with a slash between. Assumes nothing.
-use Rattle.std.specs.Prelude.{◌≡◌, ℕ, suc, ◌+◌, ◌<◌, ◌≤◌, true, List, [], ◌∷◌, ◌++◌, length, take, drop, ◌≢◌, slice_index, refl}
-use Rattle.std.proofs.Common.{sym, ap, subst, ◌∙◌, arith, add-one, length-append}
-use Rattle.std.proofs.Math.Seq.{split_at}
+use Rattle.std.specs.Prelude.{◌≡◌, ℕ, ◌+◌, ◌≤◌, true, List, [], ◌∷◌, ◌++◌, length, refl}
+use Rattle.std.proofs.Common.{ap, ◌∙◌, arith, length-append}
 use Rattle.std.proofs.ByRecursion.{All-append}
 use Rattle.scale.specs.Words.{slash, plain, NoSlash}
 use Rattle.scale.specs.Forms.{Forms}
@@ -26,15 +25,6 @@ cut_once (b ∷ u) (b' ∷ u') v v' p p' e =
     let t : u ++ (slash ∷ v) ≡ u' ++ (slash ∷ v') = cc in
     let r = cut_once u u' v v' p.1 p'.1 t in
     let first = r.0 in (cc, r.1)
-
--- two forms with a slash between have a slash
-has_slash : (u v : List ℕ) → NoSlash (u ++ (slash ∷ v)) → ⊥
-has_slash [] v p = p.0 refl
-has_slash (b ∷ u) v p = has_slash u v p.1
-
--- a word that has a slash at a place
-pub cut_at : (word : List ℕ) (i : ℕ) → i < length word → slice_index word i ≡ slash → word ≡ take i word ++ (slash ∷ drop (i + 1) word)
-cut_at word i h e = split_at word i 0 h ∙ ap (λ b. take i word ++ (b ∷ drop (suc i) word)) e ∙ ap (λ k. take i word ++ (slash ∷ drop k word)) (sym (add-one i))
 
 length_ranked : (m : Pair Grade PerMille) → length (ranked_bytes m) ≡ length (grade_bytes m.first) + (1 + length (mille_bytes m.second))
 length_ranked m = length-append (grade_bytes m.first) (slash ∷ mille_bytes m.second) ∙ omega arith
@@ -61,10 +51,3 @@ ranked_forms = record {
   within = ranked_within;
   widest = (record { first = Partial; second = Thousand }, length_ranked (record { first = Partial; second = Thousand }) ∙ ap (λ n. 7 + (1 + n)) (ap length decimal_thousand));
 }
-
--- a word with no slash is no ranked mark, and one that is has its two forms around its first slash
-pub ranked_slash : (word : List ℕ) → NoSlash word → (m : Pair Grade PerMille) → word ≢ ranked_bytes m
-ranked_slash word p m e = has_slash (grade_bytes m.first) (mille_bytes m.second) (subst NoSlash e p)
-
-pub ranked_cut : (word : List ℕ) (i : ℕ) → NoSlash (take i word) → i < length word → slice_index word i ≡ slash → (m : Pair Grade PerMille) → word ≡ ranked_bytes m → (take i word ≡ grade_bytes m.first) × (drop (i + 1) word ≡ mille_bytes m.second)
-ranked_cut word i p h at m e = cut_once (take i word) (grade_bytes m.first) (drop (i + 1) word) (mille_bytes m.second) p (grade_no_slash m.first) (sym (cut_at word i h at) ∙ e)

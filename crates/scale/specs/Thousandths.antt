@@ -1,8 +1,9 @@
 -- The per-mille scale: the whole numbers 0 to 1000. Assumes nothing.
-use Rattle.std.specs.Prelude.{◌≡◌, ℕ, ◌+◌, ◌*◌, ◌≤◌, List, length, take, decimal}
+use Rattle.std.specs.Prelude.{◌≡◌, ℕ, ◌+◌, ◌*◌, ◌≤◌, List, Result, MatchResult, decimal}
 use Rattle.scale.specs.Order.{Chain, numbered}
 use Rattle.scale.specs.declared.digits.Digit.{Digit}
 use Rattle.scale.specs.declared.digits.Digit.TheVariants.{Zero, One, Two, Three, Four, Five, Six, Seven, Eight, Nine}
+use Rattle.scale.specs.declared.digits.NotADigit.{NotADigit}
 use Rattle.scale.specs.declared.per_mille.PerMille.{PerMille}
 use Rattle.scale.specs.declared.per_mille.PerMille.TheVariants.{Thousand, Digits}
 
@@ -18,9 +19,9 @@ digit Seven = 7
 digit Eight = 8
 digit Nine = 9
 
--- the ASCII byte of a digit
-abbrev pub figure : Digit → ℕ
-figure d = 48 + digit d
+-- the digit of a number, or an error with a number that no digit has
+abbrev pub IsDigitOf : ℕ → Result Digit NotADigit → Type 0
+IsDigitOf number r = MatchResult r (λ d. digit d ≡ number) (λ e. (e.0 ≡ number) × (10 ≤ number))
 
 -- the number that a per-mille mark is
 abbrev pub thousandths : PerMille → ℕ
@@ -39,9 +40,3 @@ pub record Whole : Type 0 where
 -- a per-mille mark is written in decimal, without leading zeros
 abbrev pub mille_bytes : PerMille → List ℕ
 mille_bytes m = decimal (thousandths m)
-
--- an array of four bytes that begins with a form, and the form's length
-pub record FormArray (bytes array : List ℕ) (len : ℕ) : Type 0 where
-  pub begins : take len array ≡ bytes
-  pub long : len ≡ length bytes
-  pub short : len ≤ 4

@@ -1,9 +1,12 @@
 // Decimal digits.
-ghost use Rattle.std.specs.Prelude.{◌≡◌, ◌<◌, ◌≤◌, MatchOption};
-ghost use Rattle.scale.specs.Thousandths.{digit, figure};
+ghost use Rattle.std.specs.Prelude.{◌≡◌, ◌<◌, Some, ◌++◌, codes, decimal};
+ghost use Rattle.scale.specs.Thousandths.{digit, IsDigitOf};
+
+use std::error::Error;
+use std::fmt;
 
 // A decimal digit.
-#[derive(Clone, Copy, PartialEq, Eq)]
+#[derive(Clone, Copy, Debug, PartialEq, Eq, PartialOrd, Ord, Hash)]
 pub enum Digit {
     Zero,
     One,
@@ -17,38 +20,46 @@ pub enum Digit {
     Nine,
 }
 
-impl Digit {
-    // The digit of a number below ten.
-    pub(crate) fn new(number: u16) -> Option<Digit>
-        ensures { MatchOption result (10 ≤ number) (λ d. digit d ≡ number) }
-    {
+// A number above nine, which no digit has.
+#[derive(Clone, Copy, Debug, PartialEq, Eq, Hash)]
+pub struct NotADigit(pub u16);
+
+impl TryFrom<u16> for Digit {
+    type Error = NotADigit;
+
+    ghost try_from_gives = { IsDigitOf };
+
+    fn try_from(number: u16) -> Result<Digit, NotADigit> {
         match number {
-            0 => Some(Digit::Zero),
-            1 => Some(Digit::One),
-            2 => Some(Digit::Two),
-            3 => Some(Digit::Three),
-            4 => Some(Digit::Four),
-            5 => Some(Digit::Five),
-            6 => Some(Digit::Six),
-            7 => Some(Digit::Seven),
-            8 => Some(Digit::Eight),
-            9 => Some(Digit::Nine),
-            _ => None,
+            0 => Ok(Digit::Zero),
+            1 => Ok(Digit::One),
+            2 => Ok(Digit::Two),
+            3 => Ok(Digit::Three),
+            4 => Ok(Digit::Four),
+            5 => Ok(Digit::Five),
+            6 => Ok(Digit::Six),
+            7 => Ok(Digit::Seven),
+            8 => Ok(Digit::Eight),
+            9 => Ok(Digit::Nine),
+            _ => Err(NotADigit(number)),
         }
     }
+}
 
-    // The number of the digit.
-    pub(crate) fn value(self) -> u16
-        ensures number { result ≡ digit self }
-        ensures below { result < 10 }
-    {
-        self as u16
-    }
+impl From<Digit> for u16 {
+    ghost from_gives = { λ d number. (number ≡ digit d) × (number < 10) };
 
-    // The ASCII byte of the digit.
-    pub(crate) fn figure(self) -> u8
-        ensures { result ≡ figure self }
-    {
-        b'0' + self as u8
+    fn from(digit: Digit) -> u16 {
+        digit as u16
     }
 }
+
+impl fmt::Display for NotADigit {
+    ghost output = { λ error. Some (decimal error.0 ++ codes " is not a digit") };
+
+    fn fmt<W: fmt::Write>(&self, f: &mut fmt::Formatter<W>) -> fmt::Result {
+        write!(f, "{} is not a digit", self.0)
+    }
+}
+
+impl Error for NotADigit {}

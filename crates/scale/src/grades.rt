@@ -1,14 +1,15 @@
 // The grade scale.
-ghost use Rattle.std.specs.Prelude.{◌≡◌};
+ghost use Rattle.std.specs.Prelude.{◌≡◌, Some};
 ghost use Rattle.scale.specs.Grades.{grade_order, grade_bytes};
 ghost use Rattle.std.proofs.Common.{rules};
 ghost use Rattle.scale.specs.Grading.{grade_forms};
 
 use super::order::Scale;
 use super::writing::{Written, put};
+use std::fmt;
 
 // How strongly something holds, rising from absent to full.
-#[derive(Clone, Copy, PartialEq, Eq)]
+#[derive(Clone, Copy, Debug, PartialEq, Eq, PartialOrd, Ord, Hash)]
 pub enum Grade {
     Absent,
     Trace,
@@ -28,15 +29,15 @@ const GRADES: [Grade; 5] = [
 
 impl Grade {
     // The word that the grade is written as.
-    fn word(self) -> &'static [u8]
+    fn word(self) -> &'static str
         ensures { result.now ≡ grade_bytes self }
     {
         match self {
-            Grade::Absent => b"absent",
-            Grade::Trace => b"trace",
-            Grade::Partial => b"partial",
-            Grade::Strong => b"strong",
-            Grade::Full => b"full",
+            Grade::Absent => "absent",
+            Grade::Trace => "trace",
+            Grade::Partial => "partial",
+            Grade::Strong => "strong",
+            Grade::Full => "full",
         }
     }
 }
@@ -55,37 +56,39 @@ impl Scale for Grade {
     }
 
     fn at_most(self, other: Grade) -> bool {
-        self as u8 <= other as u8
+        self <= other
     }
 }
 
 impl Written for Grade {
+    ghost WIDTH = { 7 };
+
     const WIDTH: usize = 7;
 
     ghost bytes = { grade_bytes };
 
-    ghost width = { 7 };
-
     ghost forms = { grade_forms };
-
-    fn max_width() -> usize {
-        Self::WIDTH
-    }
 
     fn printed_len(self) -> usize {
         self.word().len()
     }
 
     fn print(self, out: &mut [u8], at: usize) -> Option<usize> {
-        put(self.word(), out, at)
+        put(self.word().as_bytes(), out, at)
     }
 
     fn read(word: &[u8]) -> Option<Grade> {
-        for grade in GRADES {
-            if grade.word() == word {
-                return Some(grade);
-            }
-        }
-        None
+        GRADES
+            .iter()
+            .copied()
+            .find(|grade| grade.word().as_bytes() == word)
+    }
+}
+
+impl fmt::Display for Grade {
+    ghost output = { λ grade. Some (grade_bytes grade) };
+
+    fn fmt<W: fmt::Write>(&self, f: &mut fmt::Formatter<W>) -> fmt::Result {
+        f.write_str(self.word())
     }
 }

@@ -9,7 +9,7 @@ mod per_mille;
 mod ranked;
 mod writing;
 
-pub use digits::Digit;
+pub use digits::{Digit, NotADigit};
 pub use grades::Grade;
 pub use order::{Scale, lower};
 pub use pairs::Pair;

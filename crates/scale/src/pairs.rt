@@ -6,7 +6,7 @@ ghost use Rattle.scale.specs.Lexical.{pair_laws};
 use super::order::Scale;
 
 // One mark of each of two scales. The first parts decide, and where they are equal the second parts do.
-#[derive(Clone, Copy, PartialEq, Eq)]
+#[derive(Clone, Copy, Debug, PartialEq, Eq, PartialOrd, Ord, Hash)]
 pub struct Pair<A, B> {
     pub first: A,
     pub second: B,
@@ -31,6 +31,8 @@ impl<A: Scale, B: Scale> Scale for Pair<A, B> {
         }
     }
 
+    // This compares by `at_most` and not by the derived order, since a part need only be a scale, and a scale need not
+    // be `Ord`.
     fn at_most(self, other: Pair<A, B>) -> bool
         ensures value { result ≡ (pair_order A.Scale.order B.Scale.order).leq self other }
         ensures decided { FirstDecides A.Scale.order B.Scale.order self other result }

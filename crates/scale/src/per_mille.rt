@@ -1,22 +1,27 @@
 // The per-mille scale.
-ghost use Rattle.std.specs.Prelude.{◌≡◌, ℕ, ◌^◌, ◌<◌, length, decimal, Decides, MatchOption, ◌≢◌, slice_index};
-ghost use Rattle.scale.specs.Thousandths.{thousandths, mille_order, mille_bytes, Whole, FormArray};
+ghost use Rattle.std.specs.Prelude.{◌≡◌, ℕ, Some, ◌^◌, ◌<◌, length, decimal, Decides, MatchOption, ◌≢◌, slice_index};
+ghost use Rattle.scale.specs.Thousandths.{thousandths, mille_order, mille_bytes, Whole};
 ghost use Rattle.scale.specs.Marks.{mille_laws};
 ghost use Rattle.scale.specs.Numerals.{mille_forms};
 
 use super::digits::Digit;
 use super::order::Scale;
 use super::writing::{Written, put};
+use itoa::Buffer;
+use std::fmt;
 
-// A whole number from 0 to 1000: the thousand, or three digits, the hundreds first.
-#[derive(Clone, Copy, PartialEq, Eq)]
+// A whole number from 0 to 1000: three digits, the hundreds first, or the thousand. The derived order, by the variants
+// and then by the digits, is the order of the numbers.
+#[derive(Clone, Copy, Debug, PartialEq, Eq, PartialOrd, Ord, Hash)]
 pub enum PerMille {
-    Thousand,
     Digits(Digit, Digit, Digit),
+    Thousand,
 }
 
 impl PerMille {
-    // The mark of a number from 0 to 1000.
+    // The mark of a number from 0 to 1000. With `value` it is a checked constructor and its accessor, which `TryFrom` and
+    // `From` would only say once more.
+    #[tactic(auto, using(crate::specs::Marks::mille_whole))]
     pub fn new(number: u16) -> Option<PerMille>
         ensures mark { MatchOption result (1000 < number) (λ m. thousandths m ≡ number) }
         ensures whole { Whole }
@@ -24,9 +29,9 @@ impl PerMille {
         if number == 1000 {
             return Some(PerMille::Thousand);
         }
-        let hundreds = Digit::new(number / 100)?;
-        let tens = Digit::new(number / 10 % 10)?;
-        let ones = Digit::new(number % 10)?;
+        let hundreds = Digit::try_from(number / 100).ok()?;
+        let tens = Digit::try_from(number / 10 % 10).ok()?;
+        let ones = Digit::try_from(number % 10).ok()?;
         Some(PerMille::Digits(hundreds, tens, ones))
     }
 
@@ -35,25 +40,10 @@ impl PerMille {
         ensures { result ≡ thousandths self }
     {
         match self {
-            PerMille::Thousand => 1000,
             PerMille::Digits(hundreds, tens, ones) => {
-                100 * hundreds.value() + 10 * tens.value() + ones.value()
+                100 * u16::from(hundreds) + 10 * u16::from(tens) + u16::from(ones)
             }
-        }
-    }
-
-    // The bytes of the written form, at the start of four, and how many there are.
-    fn form(self) -> ([u8; 4], usize)
-        ensures { FormArray (mille_bytes self) result.0 result.1 }
-    {
-        let PerMille::Digits(hundreds, tens, ones) = self else {
-            return (*b"1000", 4);
-        };
-        let (hundreds, tens, ones) = (hundreds.figure(), tens.figure(), ones.figure());
-        match self.value() {
-            0..=9 => ([ones, 0, 0, 0], 1),
-            10..=99 => ([tens, ones, 0, 0], 2),
-            _ => ([hundreds, tens, ones, 0], 3),
+            PerMille::Thousand => 1000,
         }
     }
 }
@@ -71,36 +61,40 @@ impl Scale for PerMille {
         Self::Thousand
     }
 
+    #[tactic(auto, using(crate::proofs::Orders::mille_le))]
     fn at_most(self, other: PerMille) -> bool {
-        self.value() <= other.value()
+        self <= other
     }
 }
 
 impl Written for PerMille {
+    ghost WIDTH = { 4 };
+
     const WIDTH: usize = 4;
 
     ghost bytes = { mille_bytes };
 
-    ghost width = { 4 };
-
     ghost forms = { mille_forms };
 
-    fn max_width() -> usize {
-        Self::WIDTH
-    }
-
     fn printed_len(self) -> usize {
-        let (_, len) = self.form();
-        len
+        Buffer::new().format(self.value()).len()
     }
 
     fn print(self, out: &mut [u8], at: usize) -> Option<usize> {
-        let (form, len) = self.form();
-        put(&form[0..len], out, at)
+        put(Buffer::new().format(self.value()).as_bytes(), out, at)
     }
 
+    #[tactic(auto, using(crate::proofs::Decimals::reads_mille))]
     fn read(word: &[u8]) -> Option<PerMille> {
         PerMille::new(read_decimal(word)?)
+    }
+}
+
+impl fmt::Display for PerMille {
+    ghost output = { λ mark. Some (mille_bytes mark) };
+
+    fn fmt<W: fmt::Write>(&self, f: &mut fmt::Formatter<W>) -> fmt::Result {
+        write!(f, "{}", self.value())
     }
 }
 
@@ -113,6 +107,7 @@ fn has_canonical_start(word: &[u8]) -> bool
 }
 
 // The number that a word writes in decimal without leading zeros.
+#[tactic(auto, using(crate::proofs::Decimals::decimal_first, crate::proofs::Decimals::parse_decimal))]
 fn read_decimal(word: &[u8]) -> Option<u16>
     ensures { MatchOption result ((n : ℕ) → n < 2 ^ 16 → word.now ≢ decimal n) (λ n. word.now ≡ decimal n) }
 {

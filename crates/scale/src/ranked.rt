@@ -1,5 +1,5 @@
 // Ranked marks, as `strong/100`.
-ghost use Rattle.std.specs.Prelude.{◌≡◌, ◌<◌, length, take, MatchOption, slice_index};
+ghost use Rattle.std.specs.Prelude.{◌≡◌, ◌<◌, Some, length, take, MatchOption, slice_index};
 ghost use Rattle.scale.specs.Words.{slash, NoSlash};
 ghost use Rattle.scale.specs.Ranks.{ranked_bytes};
 ghost use Rattle.scale.specs.Slashes.{ranked_forms};
@@ -8,23 +8,21 @@ use super::grades::Grade;
 use super::pairs::Pair;
 use super::per_mille::PerMille;
 use super::writing::{Written, end_of, put};
+use std::fmt;
 
 // A ranked mark: a grade, and a per-mille mark within it.
 pub type Ranked = Pair<Grade, PerMille>;
 
 impl Written for Pair<Grade, PerMille> {
+    ghost WIDTH = { 12 };
+
     const WIDTH: usize = 12;
 
     ghost bytes = { ranked_bytes };
 
-    ghost width = { 12 };
-
     ghost forms = { ranked_forms };
 
-    fn max_width() -> usize {
-        Self::WIDTH
-    }
-
+    #[tactic(auto, using(crate::specs::Grading::grade_forms, crate::specs::Numerals::mille_forms))]
     fn printed_len(self) -> usize {
         self.first.printed_len() + 1 + self.second.printed_len()
     }
@@ -38,9 +36,17 @@ impl Written for Pair<Grade, PerMille> {
 
     fn read(word: &[u8]) -> Option<Ranked> {
         let cut = first_slash(word)?;
-        let first = Grade::read(&word[0..cut])?;
+        let first = Grade::read(&word[..cut])?;
         let second = PerMille::read(&word[cut + 1..])?;
         Some(Pair { first, second })
+    }
+}
+
+impl fmt::Display for Pair<Grade, PerMille> {
+    ghost output = { λ mark. Some (ranked_bytes mark) };
+
+    fn fmt<W: fmt::Write>(&self, f: &mut fmt::Formatter<W>) -> fmt::Result {
+        write!(f, "{}/{}", self.first, self.second)
     }
 }
 
@@ -48,10 +54,5 @@ impl Written for Pair<Grade, PerMille> {
 fn first_slash(word: &[u8]) -> Option<usize>
     ensures { MatchOption result (NoSlash word.now) (λ i. NoSlash (take i word.now) × (i < length word.now) × (slice_index word.now i ≡ slash)) }
 {
-    for (i, byte) in word.iter().enumerate() {
-        if *byte == b'/' {
-            return Some(i);
-        }
-    }
-    None
+    word.iter().position(|&byte| byte == b'/')
 }

@@ -9,24 +9,27 @@ use super::order::Scale;
 // letters, digits or slashes.
 pub trait Written: Scale {
     // The greatest width of a written mark, in bytes.
+    ghost WIDTH: { ℕ };
+
     const WIDTH: usize;
 
     // The written form of a mark.
     ghost bytes: { Self → List ℕ };
 
-    // What `WIDTH` is: a clause cannot cite an associated constant.
-    ghost width: { ℕ };
-
-    // `WIDTH`, with the contract that it is the greatest width.
+    // The greatest width of a written mark, in bytes.
     fn max_width() -> usize
-        ensures { result ≡ width };
+        ensures { result ≡ WIDTH }
+    {
+        Self::WIDTH
+    }
 
     // How many bytes the mark's form has.
     fn printed_len(self) -> usize
         ensures { result ≡ length (bytes self) };
 
     // Writes the mark's form into `out` from the place `at` on, and answers the place after it; `None`, and `out` as it
-    // was, where the form does not fit.
+    // was, where the form does not fit. The buffer is the caller's, as nothing here allocates, and a `fmt::Write` would not
+    // say that it is left whole.
     fn print(self, out: &mut [u8], at: usize) -> Option<usize>
         ensures { Printed (bytes self) at out.old out.new result };
 
@@ -35,18 +38,14 @@ pub trait Written: Scale {
         ensures { Reads bytes word.now result };
 
     // Each implementation proves these too: forms are words, differ from mark to mark, and keep within the width.
-    ghost forms: { Forms bytes width };
+    ghost forms: { Forms bytes WIDTH };
 }
 
 // The place after `len` bytes from the place `at` on, where a buffer of `size` bytes has room for them.
 pub(crate) fn end_of(size: usize, at: usize, len: usize) -> Option<usize>
     ensures { MatchOption result (size < at + len) (λ end. (end ≡ at + len) × (end ≤ size)) }
 {
-    if at <= size && len <= size - at {
-        Some(at + len)
-    } else {
-        None
-    }
+    at.checked_add(len).filter(|&end| end <= size)
 }
 
 // Writes `text` into `out` from the place `at` on, as `Written::print` does a mark's form.
@@ -63,7 +62,7 @@ pub fn read_back<S: Written>(mark: S, out: &mut [u8], at: usize) -> Option<S>
     ensures back { MatchOption result (length out.old < at + length (S.Written.bytes mark)) (λ m. m ≡ mark) }
     ensures printed { Printed (S.Written.bytes mark) at out.old out.new (option_map (λ _. at + length (S.Written.bytes mark)) result) }
     ensures always { RoundTrip S.Written.bytes }
-    ensures forms { Forms S.Written.bytes S.Written.width }
+    ensures forms { Forms S.Written.bytes S.Written.WIDTH }
 {
     let end = mark.print(out, at)?;
     S::read(&out[at..end])

@@ -5,7 +5,7 @@ ghost use Rattle.std.proofs.Common.{rules};
 use scale::Scale;
 
 // Off or on.
-#[derive(Clone, Copy, PartialEq, Eq)]
+#[derive(Clone, Copy, Debug, PartialEq, Eq, PartialOrd, Ord, Hash)]
 pub enum Switch {
     Off,
     On,
@@ -25,6 +25,6 @@ impl Scale for Switch {
     }
 
     fn at_most(self, other: Switch) -> bool {
-        self as u8 <= other as u8
+        self <= other
     }
 }

@@ -1,5 +1,6 @@
 use super::Switch;
 use scale::{Grade, Pair, PerMille, Ranked, Scale, Written, lower, read_back};
+use std::fmt::Debug;
 use std::process::Abort;
 use std::test::Fail;
 
@@ -65,40 +66,44 @@ static NO_RANKS: [&[u8]; 13] = [
 ];
 
 // The mark is printed as the word, into that place alone, and the word is read as the mark.
-fn both_ways<S: Written + PartialEq>(rt: &impl Abort, mark: S, word: &[u8]) -> Result<(), Fail> {
-    assert!(rt; mark.printed_len() == word.len());
+fn both_ways<S: Written + Debug + PartialEq>(
+    rt: &impl Abort,
+    mark: S,
+    word: &[u8],
+) -> Result<(), Fail> {
+    assert_eq!(rt; mark.printed_len(), word.len());
     assert!(rt; word.len() <= S::max_width());
-    assert!(rt; S::read(word) == Some(mark));
+    assert_eq!(rt; S::read(word), Some(mark));
     let mut out = [b'.'; 20];
     let end = mark.print(&mut out, 3).ok_or("room for every form")?;
     assert!(rt; 3 <= end && end <= 20);
-    assert!(rt; &out[3..end] == word);
-    assert!(rt; &out[0..3] == b"...".as_slice());
-    assert!(rt; &out[end..] == &[b'.'; 20][end..]);
-    assert!(rt; read_back(mark, &mut out, 8) == Some(mark));
+    assert_eq!(rt; &out[3..end], word);
+    assert_eq!(rt; &out[0..3], b"...".as_slice());
+    assert_eq!(rt; &out[end..], &[b'.'; 20][end..]);
+    assert_eq!(rt; read_back(mark, &mut out, 8), Some(mark));
     Ok(())
 }
 
 #[test]
 fn per_mille_both_ways(rt: HostRuntime) -> Result<(), Fail> {
-    for (value, word) in NUMBERS.iter() {
-        let mark = PerMille::new(*value).ok_or("a number up to 1000")?;
-        assert!(rt; mark.value() == *value);
+    for &(value, word) in &NUMBERS {
+        let mark = PerMille::new(value).ok_or("a number up to 1000")?;
+        assert_eq!(rt; mark.value(), value);
         both_ways(&rt, mark, word)?;
     }
-    assert!(rt; PerMille::new(1001) == None);
-    assert!(rt; PerMille::new(u16::MAX) == None);
+    assert_eq!(rt; PerMille::new(1001), None);
+    assert_eq!(rt; PerMille::new(u16::MAX), None);
     Ok(())
 }
 
 #[test]
 fn every_ranked_mark_is_read_back(rt: HostRuntime) -> Result<(), Fail> {
-    for (grade, _) in GRADES.iter() {
+    for &(grade, _) in &GRADES {
         for value in 0..=1000 {
-            let mark = ranked(*grade, value)?;
-            assert!(rt; mark.second.value() == value);
+            let mark = ranked(grade, value)?;
+            assert_eq!(rt; mark.second.value(), value);
             let mut out = [b'.'; 12];
-            assert!(rt; read_back(mark, &mut out, 0) == Some(mark));
+            assert_eq!(rt; read_back(mark, &mut out, 0), Some(mark));
         }
     }
     Ok(())
@@ -106,12 +111,12 @@ fn every_ranked_mark_is_read_back(rt: HostRuntime) -> Result<(), Fail> {
 
 #[test]
 fn numbers_rise(rt: HostRuntime) -> Result<(), Fail> {
-    for (i, (a, _)) in NUMBERS.iter().enumerate() {
-        let a = PerMille::new(*a).ok_or("a number up to 1000")?;
+    for (i, &(a, _)) in NUMBERS.iter().enumerate() {
+        let a = PerMille::new(a).ok_or("a number up to 1000")?;
         assert!(rt; PerMille::lowest().at_most(a) && a.at_most(PerMille::highest()));
-        for (j, (b, _)) in NUMBERS.iter().enumerate() {
-            let b = PerMille::new(*b).ok_or("a number up to 1000")?;
-            assert!(rt; a.at_most(b) == (i <= j));
+        for (j, &(b, _)) in NUMBERS.iter().enumerate() {
+            let b = PerMille::new(b).ok_or("a number up to 1000")?;
+            assert_eq!(rt; a.at_most(b), i <= j);
         }
     }
     assert!(rt; PerMille::lowest().value() == 0 && PerMille::highest().value() == 1000);
@@ -120,8 +125,8 @@ fn numbers_rise(rt: HostRuntime) -> Result<(), Fail> {
 
 #[test]
 fn grades_both_ways(rt: HostRuntime) -> Result<(), Fail> {
-    for (grade, word) in GRADES.iter() {
-        both_ways(&rt, *grade, word)?;
+    for &(grade, word) in &GRADES {
+        both_ways(&rt, grade, word)?;
     }
     Ok(())
 }
@@ -139,15 +144,23 @@ fn ranked_both_ways(rt: HostRuntime) -> Result<(), Fail> {
 }
 
 #[test]
+fn marks_by_display(rt: HostRuntime) -> Result<(), Fail> {
+    let mark = ranked(Grade::Strong, 100)?;
+    let text = format!(in rt.alloc(); "{}, {}, {mark}", mark.first, mark.second)?;
+    assert_eq!(rt; text.as_str(), "strong, 100, strong/100");
+    Ok(())
+}
+
+#[test]
 fn refused_words(rt: HostRuntime) {
-    for word in NO_NUMBERS.iter() {
-        assert!(rt; PerMille::read(word) == None);
+    for word in &NO_NUMBERS {
+        assert_eq!(rt; PerMille::read(word), None);
     }
-    for word in NO_GRADES.iter() {
-        assert!(rt; Grade::read(word) == None);
+    for word in &NO_GRADES {
+        assert_eq!(rt; Grade::read(word), None);
     }
-    for word in NO_RANKS.iter() {
-        assert!(rt; Ranked::read(word) == None);
+    for word in &NO_RANKS {
+        assert_eq!(rt; Ranked::read(word), None);
     }
 }
 
@@ -159,15 +172,15 @@ fn second_parts_decide_between_equal_first_parts(rt: HostRuntime) -> Result<(), 
     assert!(rt; lower(low, high) == low && lower(high, low) == low);
     let other = ranked(Grade::Partial, 900)?;
     assert!(rt; other.at_most(low) && !low.at_most(other));
-    assert!(rt; lower(low, other) == other);
+    assert_eq!(rt; lower(low, other), other);
     Ok(())
 }
 
 #[test]
 fn grades_rise(rt: HostRuntime) {
-    for (i, (a, _)) in GRADES.iter().enumerate() {
-        for (j, (b, _)) in GRADES.iter().enumerate() {
-            assert!(rt; a.at_most(*b) == (i <= j));
+    for (i, &(a, _)) in GRADES.iter().enumerate() {
+        for (j, &(b, _)) in GRADES.iter().enumerate() {
+            assert_eq!(rt; a.at_most(b), i <= j);
         }
     }
     assert!(rt; Grade::lowest() == Grade::Absent && Grade::highest() == Grade::Full);
@@ -177,12 +190,12 @@ fn grades_rise(rt: HostRuntime) {
 fn no_room_leaves_the_buffer(rt: HostRuntime) -> Result<(), Fail> {
     let mark = ranked(Grade::Strong, 100)?;
     let mut out = [b'.'; 12];
-    assert!(rt; mark.print(&mut out, 3) == None);
-    assert!(rt; mark.print(&mut out, 12) == None);
-    assert!(rt; mark.print(&mut out, usize::MAX) == None);
-    assert!(rt; &out == b"............");
-    assert!(rt; mark.print(&mut out, 2) == Some(12));
-    assert!(rt; &out == b"..strong/100");
+    assert_eq!(rt; mark.print(&mut out, 3), None);
+    assert_eq!(rt; mark.print(&mut out, 12), None);
+    assert_eq!(rt; mark.print(&mut out, usize::MAX), None);
+    assert_eq!(rt; &out, b"............");
+    assert_eq!(rt; mark.print(&mut out, 2), Some(12));
+    assert_eq!(rt; &out, b"..strong/100");
     Ok(())
 }
 
@@ -197,6 +210,6 @@ fn a_scale_of_ones_own(rt: HostRuntime) {
         second: Grade::Absent,
     };
     assert!(rt; off.at_most(on) && !on.at_most(off));
-    assert!(rt; lower(on, off) == off);
-    assert!(rt; Pair::<Switch, Grade>::highest().second == Grade::Full);
+    assert_eq!(rt; lower(on, off), off);
+    assert_eq!(rt; Pair::<Switch, Grade>::highest().second, Grade::Full);
 }

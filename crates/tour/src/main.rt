@@ -6,23 +6,25 @@ mod route;
 use anyhow::Context;
 use route::Route;
 use scale::{Grade, PerMille, Ranked, Written};
+use std::io;
 use std::io::Write;
 
 // Reads the two marks of a route, and prints its line after the scale's name.
 fn tell<S: Written>(
-    rt: &HostRuntime,
+    rt: &impl Print,
     name: &str,
     first: &[u8],
     second: &[u8],
 ) -> anyhow::Result<()> {
     let first = S::read(first).context("the first step has no mark of the scale")?;
     let second = S::read(second).context("the second step has no mark of the scale")?;
+    // `Route::print` writes into a buffer that is lent, which is what this program shows.
     let mut line = [0u8; 96];
     let end = Route { first, second }
         .print(&mut line)
         .context("the line is too long")?;
     print!(rt; "{name}: ")?;
-    rt.stdout().write_all(&line[0..end])?;
+    io::writer(rt).write_all(&line[..end])?;
     Ok(())
 }
 

@@ -6,7 +6,7 @@ ghost use Rattle.tour.specs.Routes.{strength as strength_of, route_line};
 use scale::{Scale, Written, lower, put};
 
 // Two steps from surface to surface, each with a mark.
-#[derive(Clone, Copy)]
+#[derive(Clone, Copy, Debug, PartialEq, Eq, Hash)]
 pub struct Route<S> {
     pub first: S,
     pub second: S,
@@ -22,6 +22,7 @@ impl<S: Written> Route<S> {
 
     // Writes the line that tells the route's strength at the start of `out`, and answers its length; `None`, and `out`
     // as it was, where the line does not fit.
+    // It is no `Display`: a bound `Display` says nothing of the bytes of a mark, as `Written` does, so it would promise less.
     pub fn print(self, out: &mut [u8]) -> Option<usize>
         ensures { Printed (route_line S.Scale.order S.Written.bytes self) 0 out.old out.new result }
     {
@@ -32,11 +33,11 @@ impl<S: Written> Route<S> {
         if out.len() < marks + then.len() + gives.len() + 1 {
             return None;
         }
-        let mut at = self.first.print(out, 0)?;
-        at = put(then, out, at)?;
-        at = self.second.print(out, at)?;
-        at = put(gives, out, at)?;
-        at = strength.print(out, at)?;
+        let at = self.first.print(out, 0)?;
+        let at = put(then, out, at)?;
+        let at = self.second.print(out, at)?;
+        let at = put(gives, out, at)?;
+        let at = strength.print(out, at)?;
         put(b"\n", out, at)
     }
 }

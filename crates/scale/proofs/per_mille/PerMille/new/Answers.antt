@@ -1,12 +1,15 @@
-use Rattle.std.proofs.Common.{rules}
-use Rattle.scale.specs.Marks.{mille_whole}
+use Rattle.std.proofs.Common.{◌≡◌, ℕ, Option, Some, Ok, Err, Result, arith}
+use Rattle.std.specs.Result.{result_ok}
+use Rattle.scale.specs.Thousandths.{digit, IsDigitOf}
+use Rattle.scale.specs.declared.digits.Digit.{Digit}
+use Rattle.scale.specs.declared.digits.NotADigit.{NotADigit}
 use Rattle.scale.proofs.per_mille.PerMille.new.Goals as goal
 
-pub returns-then-number-eq1000 : goal.returns-then-number-eq1000
-returns-then-number-eq1000 c = record { mark = search rules; whole = mille_whole }
+-- the digit that was taken out of a result
+taken : (number : ℕ) (r : Result Digit NotADigit) (o : Option Digit) (d : Digit) → IsDigitOf number r → o ≡ result_ok r → o ≡ Some d → digit d ≡ number
+taken number (Ok x) o d is ok some = grind arith
+taken number (Err e) o d is ok some = grind arith
 
-pub returns-in_err-hundreds : goal.returns-in_err-hundreds
-returns-in_err-hundreds c = record { mark = search rules; whole = mille_whole }
-
-pub returns : goal.returns
-returns c = record { mark = search rules; whole = mille_whole }
+pub returns-clause-mark : goal.returns-clause-mark
+returns-clause-mark c =
+    grind (arith, taken)

@@ -1,4 +1,4 @@
-use Rattle.std.proofs.Common.{◌+◌, ◌≤◌, [], ◌∷◌, ◌++◌, length, sym, append_assoc, arith, length-append}
+use Rattle.std.proofs.Common.{[], ◌∷◌, ◌++◌, sym, append_assoc, arith, length-append}
 use Rattle.scale.specs.Words.{slash}
 use Rattle.scale.specs.Grades.{grade_bytes}
 use Rattle.scale.specs.Thousandths.{mille_bytes}
@@ -9,11 +9,9 @@ pub returns : goal.returns
 returns c =
     let grade = grade_bytes c.args.self.first in
     let mille = mille_bytes c.args.self.second in
-    let all = c.in_ok-end_of.ensures in
     let long = length-append grade (slash ∷ mille) in
     let front = length-append grade (slash ∷ []) in
-    let head = printed_append c.args.out.now c.print.new.out c.put.new.out c.args.at c.in_ok-cut.cut c.in_ok-rest.rest grade (slash ∷ []) c.in_ok-cut.ensures c.in_ok-rest.ensures in
-    let room : c.args.at + length (grade ++ (slash ∷ [])) + length mille ≤ length c.args.out.now = omega arith in
+    let head = printed_append _ _ _ _ _ _ grade (slash ∷ []) c.in_ok-cut.ensures c.in_ok-rest.ensures in
     printed_same _ ((grade ++ (slash ∷ [])) ++ mille) _ _ _ _
-    (printed_then c.args.out.now c.put.new.out c.print-2.new.out c.args.at c.in_ok-rest.rest c.print-2.result (grade ++ (slash ∷ [])) mille room head c.print-2.ensures)
+    (printed_then _ _ _ _ _ c.print-2.result _ mille (omega (arith, c.in_ok-end_of.ensures)) head c.print-2.ensures)
     (sym (append_assoc grade (slash ∷ []) mille))

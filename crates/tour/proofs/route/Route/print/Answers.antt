@@ -1,6 +1,6 @@
-use Rattle.std.proofs.Common.{◌≡◌, ℕ, ◌+◌, List, [], ◌∷◌, ◌++◌, length, codes, sym, refl, ap, ◌∙◌, append_assoc, arith, length-append}
+use Rattle.std.proofs.Common.{◌≡◌, ℕ, ◌+◌, List, [], ◌∷◌, ◌++◌, length, codes, sym, ap, ◌∙◌, append_assoc, arith, length-append}
 use Rattle.scale.proofs.Printing.{printed_append, printed_then, printed_same}
-use Rattle.tour.specs.Routes.{strength, route_line}
+use Rattle.tour.specs.Routes.{route_line}
 use Rattle.tour.proofs.route.Route.print.Goals as goal
 
 abbrev line : List ℕ → List ℕ → List ℕ → List ℕ
@@ -13,16 +13,6 @@ length_line a b s = simp length-append (omega arith)
 line_pieces : (a b s : List ℕ) → line a b s ≡ ((((a ++ codes " then ") ++ b) ++ codes " gives ") ++ s) ++ (10 ∷ [])
 line_pieces a b s = simp append_assoc
 
-pub returns-then-out-marks : goal.returns-then-out-marks
-returns-then-out-marks g c =
-    let order = g.S.Scale.order in
-    let bytes = g.S.Written.bytes in
-    let a = bytes c.args.self.first in
-    let b = bytes c.args.self.second in
-    let s = ap (λ m. length (bytes m)) c.strength-strength.ensures in
-    let long = length_line a b (bytes (strength order c.args.self)) in
-    (omega arith, refl)
-
 pub returns : goal.returns
 returns g c =
     let order = g.S.Scale.order in
@@ -31,14 +21,13 @@ returns g c =
     let b = bytes c.args.self.second in
     let s = bytes c.strength-strength.result in
     let told = ap bytes c.strength-strength.ensures in
-    let p₁ = c.in_ok-at.ensures in
-    let p₂ = printed_append c.args.out.now c.print.new.out c.put.new.out 0 c.in_ok-at.at c.in_ok-at-2.at a (codes " then ") p₁ c.in_ok-at-2.ensures in
-    let p₃ = printed_append c.args.out.now c.put.new.out c.print-2.new.out 0 c.in_ok-at-2.at c.in_ok-at-3.at (a ++ codes " then ") b p₂ c.in_ok-at-3.ensures in
-    let p₄ = printed_append c.args.out.now c.print-2.new.out c.put-2.new.out 0 c.in_ok-at-3.at c.in_ok-at-4.at ((a ++ codes " then ") ++ b) (codes " gives ") p₃ c.in_ok-at-4.ensures in
-    let p₅ = printed_append c.args.out.now c.put-2.new.out c.print-3.new.out 0 c.in_ok-at-4.at c.in_ok-at-5.at (((a ++ codes " then ") ++ b) ++ codes " gives ") s p₄ c.in_ok-at-5.ensures in
+    let p₂ = printed_append _ _ _ _ _ _ a (codes " then ") c.in_ok-at.ensures c.in_ok-at-2.ensures in
+    let p₃ = printed_append _ _ _ _ _ _ _ b p₂ c.in_ok-at-3.ensures in
+    let p₄ = printed_append _ _ _ _ _ _ _ (codes " gives ") p₃ c.in_ok-at-4.ensures in
+    let p₅ = printed_append _ _ _ _ _ _ _ s p₄ c.in_ok-at-5.ensures in
     let long = length_line a b s in
     let whole = ap length (line_pieces a b s) in
     let parts = length-append ((((a ++ codes " then ") ++ b) ++ codes " gives ") ++ s) (10 ∷ []) in
-    printed_same (route_line order bytes c.args.self) (((((a ++ codes " then ") ++ b) ++ codes " gives ") ++ s) ++ (10 ∷ [])) 0 c.args.out.now c.put-3.new.out c.put-3.result
-    (printed_then c.args.out.now c.print-3.new.out c.put-3.new.out 0 c.in_ok-at-5.at c.put-3.result ((((a ++ codes " then ") ++ b) ++ codes " gives ") ++ s) (10 ∷ []) (omega arith) p₅ c.put-3.ensures)
+    printed_same (route_line order bytes c.args.self) _ _ _ _ _
+    (printed_then _ _ _ _ _ c.put-3.result _ (10 ∷ []) (omega arith) p₅ c.put-3.ensures)
     (ap (line a b) (sym told) ∙ line_pieces a b s)
