@@ -1,47 +1,47 @@
--- The start marks, one raise after another. Assumes nothing.
-use Rattle.std.proofs.Common.{◌≡◌, ℕ, ◌+◌, ◌*◌, ◌<◌, Bool, List, [], length, get_or, sym, ◌∙◌, subst, inl, inr, arith}
-use Rattle.std.proofs.lemmas.List.{get_or_default}
+-- The start marks: every cell lowest, then the highest put where a term falls under itself or under `any`. Assumes nothing.
+use Rattle.std.proofs.Common.{◌≡◌, ℕ, ◌+◌, ◌*◌, ◌<◌, Bool, List, [], get_or, replicate, sym, ap, ◌∙◌, subst, inl, inr, arith}
+use Rattle.std.proofs.lemmas.List.{get_or-replicate}
 use Rattle.std.proofs.lemmas.Bool.{cases_eq}
 use Rattle.scale.specs.Order.{Chain, AtMost, Laws}
 use Rattle.logic.specs.Axioms.{Axiom, any}
-use Rattle.logic.specs.Derivations.{Cell, Within, Derives, pair, start, self, top}
-use Rattle.catalogue.specs.Cells.{pair_cell}
-use Rattle.catalogue.specs.Climbing.{Raised, Derived, Risen, pair_of}
-use Rattle.catalogue.proofs.Places.{pair_inside}
-use Rattle.catalogue.proofs.Rising.{risen_raised, raised_now}
-use Rattle.catalogue.proofs.Reading.{at_pair}
+use Rattle.logic.specs.Derivations.{Cell, pair, link, Within, Derives, self, top}
+use Rattle.catalogue.specs.Cells.{cells}
+use Rattle.catalogue.specs.Climbing.{held, Stays, Raised, Derived, Rise, Tops}
+use Rattle.catalogue.specs.declared.tables.Tables.{Tables}
+use Rattle.std.proofs.lemmas.Nat.{mul-add-lt}
+use Rattle.catalogue.proofs.Places.{link_inside}
+use Rattle.catalogue.proofs.Rising.{stays_more, within_stays, raised_stays, raised_now, raised_rise}
 
--- a pair table whose marks can be derived whatever the axioms
-abbrev pub Initial : {M : Type 0} → Chain M → ℕ → List M → Type 0
-Initial {M} C n pairs = (k : ℕ) (axioms : List (Axiom M)) → Derived C n k axioms (pair_of n) pairs
+-- tables of lowest marks hold the lowest in every cell
+pub all_low : {M : Type 0} (C : Chain M) (n k : ℕ) (pairs links : List M) (p l : M) → p ≡ C.low → l ≡ C.low → pairs ≡ replicate (n * n) p → links ≡ replicate (k * n * n) l → (c : Cell) → Within n k c → cells C n pairs links c ≡ C.low
+all_low C n k pairs links p l e f ep el (pair X Y) h = ap (λ t. get_or t (X * n + Y) C.low) ep ∙ get_or-replicate (n * n) (X * n + Y) p C.low (mul-add-lt X n Y n h.0 h.1) ∙ e
+all_low C n k pairs links p l e f ep el (link X r Y) h = ap (λ t. get_or t ((r * n + X) * n + Y) C.low) el ∙ get_or-replicate (k * n * n) ((r * n + X) * n + Y) l C.low (link_inside n k X r Y h.0 h.1 h.2) ∙ f
 
--- the highest mark where X falls under itself and under `any`
-abbrev pub Tops : {M : Type 0} → Chain M → ℕ → List M → ℕ → Type 0
-Tops C n pairs X = AtMost C C.high (pair_cell C n pairs X X) × AtMost C C.high (pair_cell C n pairs X any)
+module _ {M : Type 0} {C : Chain M} (laws : Laws C) where
+  -- a cell that is raised to the highest mark, as may be derived for it
+  high : (a b : Tables M) (c : Cell) (m : M) (r : Bool) → m ≡ C.high → Within a.size.n a.size.k c → ((axioms : List (Axiom M)) → Derives C a.size.n a.size.k axioms c C.high) → ((axioms : List (Axiom M)) → Derived C axioms a) → Raised C a c m b r
+      → Stays a b × ((axioms : List (Axiom M)) → Rise C axioms a b r) × AtMost C C.high (held C b c)
+  high a b c m r e h d derived up =
+      let up' = subst (λ v. Raised C a c v b r) e up in
+      (raised_stays up', λ axioms. raised_rise laws axioms a b c C.high r h (derived axioms) (d axioms) up', raised_now laws a b c C.high r h up')
 
-module _ {M : Type 0} {C : Chain M} (laws : Laws C) {n : ℕ} where
-  one : (old new : List M) (x y : ℕ) (rose : Bool) → length old ≡ n * n → x < n → y < n → ((k : ℕ) (axioms : List (Axiom M)) → Derives C n k axioms (pair x y) C.high)
-      → Raised C old (x * n + y) C.high new rose → Initial C n old → Initial C n new × (length new ≡ n * n) × ((i : ℕ) → AtMost C (get_or old i C.low) (get_or new i C.low)) × AtMost C C.high (pair_cell C n new x y)
-  one old new x y rose size hx hy d r initial =
-      let lt : x * n + y < length old = let h = pair_inside n x y hx hy in omega arith in
-      let risen : (k : ℕ) (axioms : List (Axiom M)) → Risen C n k axioms (pair_of n) old new = λ k axioms. risen_raised laws (pair_of n) old new (x * n + y) C.high rose lt (initial k axioms) (at_pair x y hy (d k axioms)) r in
-      (λ k axioms. (risen k axioms).derived, (risen 0 []).long ∙ size, (risen 0 []).rises, raised_now laws old new (x * n + y) C.high rose lt r)
-
-  pub started_more : (old mid new : List M) (x : ℕ) (r s : Bool) → 1 < n → length old ≡ n * n → x < n → Raised C old (x * n + x) C.high mid r → Raised C mid (x * n + any) C.high new s
-      → Initial C n old × ((X : ℕ) → X < x → Tops C n old X) → Initial C n new × ((X : ℕ) → X < x + 1 → Tops C n new X)
-  started_more old mid new x r s two size hx selves tops (initial, before) =
-      let (i₁, size₁, up₁, here₁) = one old mid x x r size hx hx (λ k axioms. self x hx) selves initial in
-      let (i₂, size₂, up₂, here₂) = one mid new x any s size₁ hx (omega arith) (λ k axioms. top x hx) tops i₁ in (
-        i₂,
+  pub started_more : (first a b c : Tables M) (x : ℕ) (m m' : M) (r s : Bool) → x < first.size.n → m ≡ C.high → m' ≡ C.high → Raised C a (pair x x) m b r → Raised C b (pair x any) m' c s
+      → Stays first a × ((axioms : List (Axiom M)) → Derived C axioms a) × ((X : ℕ) → X < x → Tops C a X)
+      → Stays first c × ((axioms : List (Axiom M)) → Derived C axioms c) × ((X : ℕ) → X < x + 1 → Tops C c X)
+  started_more first a b c x m m' r s lt e e' up up' (stays, derived, before) =
+      let two = first.size.limits.0 in
+      let ha = within_stays (pair x x) stays (lt, lt) in
+      let (stays₁, rise₁, here₁) = high a b (pair x x) m r e ha (λ axioms. self x ha.0) derived up in
+      let hb = within_stays (pair x any) (stays_more stays stays₁) (lt, omega arith) in
+      let (stays₂, rise₂, here₂) = high b c (pair x any) m' s e' hb (λ axioms. top x hb.0) (λ axioms. (rise₁ axioms).derived) up' in
+      let rises₁ = (rise₁ []).rises in
+      let rises₂ = (rise₂ []).rises in (
+        stays_more (stays_more stays stays₁) stays₂,
+        λ axioms. (rise₂ axioms).derived,
         λ X h. elim (cases_eq X x) [
-          | inl e ↦ subst (Tops C n new) (sym e) (laws.trans _ _ _ here₁ (up₂ (x * n + x)), here₂)
+          | inl same ↦ subst (Tops C c) (sym same) (laws.trans _ _ _ here₁ (rises₂ (pair x x)), here₂)
           | inr ne ↦
               let (p, q) = before X (omega arith) in
-              (laws.trans _ _ _ p (laws.trans _ _ _ (up₁ (X * n + X)) (up₂ (X * n + X))), laws.trans _ _ _ q (laws.trans _ _ _ (up₁ (X * n + any)) (up₂ (X * n + any))))
+              (laws.trans _ _ _ p (laws.trans _ _ _ (rises₁ (pair X X)) (rises₂ (pair X X))), laws.trans _ _ _ q (laws.trans _ _ _ (rises₁ (pair X any)) (rises₂ (pair X any))))
         ],
       )
-
--- a table of lowest marks is derived
-pub filled : {M : Type 0} {C : Chain M} {n k : ℕ} {axioms : List (Axiom M)} (cell : ℕ → Cell) (table : List M) (lowest : M) → lowest ≡ C.low → ((i : ℕ) → i < length table → Within n k (cell i)) → ((i : ℕ) → i < length table → get_or table i lowest ≡ lowest) → Derived C n k axioms cell table
-filled {C = C} {n = n} {k = k} {axioms = axioms} cell table lowest e inside same i h =
-    subst (λ v. Derives C n k axioms (cell i) v) (sym (get_or_default table i C.low lowest h ∙ same i h ∙ e)) (start (cell i) (inside i h))

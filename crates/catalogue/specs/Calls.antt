@@ -10,6 +10,7 @@ use Rattle.catalogue.specs.Cells.{pair_cell, cells}
 use Rattle.catalogue.specs.Refusals.{Verdict, fine, refused, row, ◌then◌}
 use Rattle.catalogue.specs.Rules.{card_verdict, cards_verdict, room_verdict}
 use Rattle.catalogue.specs.declared.refusals.Refusal.{Refusal}
+use Rattle.catalogue.specs.declared.states.Numbers.{Numbers as Kept}
 use Rattle.catalogue.specs.declared.states.Draft.{Draft}
 use Rattle.catalogue.specs.declared.states.Classified.{Classified}
 
@@ -23,11 +24,14 @@ pub record Numbers : Type 0 where
 abbrev pub numbers : (n k c f : ℕ) → Numbers
 numbers n k c f = record { n = n; k = k; c = c; f = f }
 
+abbrev pub of_numbers : Kept → Numbers
+of_numbers w = numbers w.size.n w.size.k w.capacity w.standing
+
 abbrev pub of_draft : Draft → Numbers
-of_draft d = numbers d.size.n d.size.k d.capacity d.standing
+of_draft d = of_numbers d.numbers
 
 abbrev pub of_classified : Classified → Numbers
-of_classified c = numbers c.size.n c.size.k c.capacity c.standing
+of_classified c = of_numbers c.numbers
 
 -- n is 2 to 256, k at most 32, c at most 4,096
 abbrev pub within_limits : (n k c : ℕ) → Bool

@@ -1,9 +1,17 @@
 -- Refusals: their numbers and values, and how the rows of a call's tests make its verdict. Assumes nothing.
 use Rattle.std.specs.Prelude.{ℕ, Bool, true, false, List, [], ◌∷◌, Ok, Err, Result}
+use Rattle.catalogue.specs.declared.refusals.Place.{Place}
+use Rattle.catalogue.specs.declared.refusals.Place.TheVariants.{First, Second, Third}
 use Rattle.catalogue.specs.declared.refusals.Rule.{Rule}
 use Rattle.catalogue.specs.declared.refusals.Rule.TheVariants.{Form, Number, Mark}
 use Rattle.catalogue.specs.declared.refusals.Refusal.{Refusal}
 use Rattle.catalogue.specs.declared.refusals.Refusal.TheVariants.{Limits, TableLength, UnknownForm, OutOfRange, LowestMark, AlreadyStands, TableFull, BrokenCard}
+
+-- the number of a place
+abbrev pub place_number : Place → ℕ
+place_number First = 1
+place_number Second = 2
+place_number Third = 3
 
 -- the refusal that a single card would get for breaking the rule
 abbrev pub rule_number : Rule → ℕ
@@ -21,7 +29,7 @@ abbrev pub refused : Refusal → Verdict
 refused Limits = refuse 1 []
 refused TableLength = refuse 2 []
 refused UnknownForm = refuse 3 []
-refused (OutOfRange place) = refuse 4 (place ∷ [])
+refused (OutOfRange place) = refuse 4 (place_number place ∷ [])
 refused LowestMark = refuse 5 []
 refused AlreadyStands = refuse 6 []
 refused TableFull = refuse 7 []

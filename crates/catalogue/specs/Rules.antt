@@ -64,7 +64,7 @@ abbrev pub card_verdict : {M : Type 0} → Chain M → (n k : ℕ) → Card M �
 card_verdict C n k card = statement_verdict n k (statement_of card) then row 5 [] (C.leq card.mark C.low)
 
 -- the same in words: a card keeps the rules exactly when it is the record of an axiom that is in range and whose mark is above the lowest
-abbrev pub KeptInWords : {M : Type 0} → Chain M → Type 0
+unfoldable pub KeptInWords : {M : Type 0} → Chain M → Type 0
 KeptInWords {M} C =
     (n k : ℕ) (card : Card M)
     → (card_verdict C n k card ≡ fine → (a : Axiom M) × (card ≡ card_of a) × InRange n k a × (C.leq (mark_of a) C.low ≡ false))

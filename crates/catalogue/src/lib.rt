@@ -2,12 +2,12 @@
 #![tactic(auto)]
 
 mod calls;
-mod cells;
 mod refusals;
 mod rules;
 mod saturation;
 mod sizes;
 mod states;
+mod tables;
 
-pub use refusals::{Refusal, Rule};
+pub use refusals::{Place, Refusal, Rule};
 pub use states::{Classified, Draft};

@@ -1,39 +1,58 @@
 // Refusals.
-ghost use Rattle.std.specs.Prelude.{◌≡◌};
-ghost use Rattle.catalogue.specs.Refusals.{refused, number_in};
+ghost use Rattle.std.specs.Prelude.{◌≡◌, ◌++◌, Some, codes, decimal};
+ghost use Rattle.catalogue.specs.Refusals.{refused, number_in, place_number};
 
-// A rule that a card breaks: its form is not 1 to 6, a number of it is out of range for its kind, or its mark is the
-// lowest.
-#[derive(Clone, Copy, PartialEq, Eq)]
+use std::error::Error;
+use std::fmt;
+
+/// A place among the numbers of a statement or of a question, in the order of its line.
+#[derive(Clone, Copy, Debug, PartialEq, Eq, Hash)]
+pub enum Place {
+    First = 1,
+    Second,
+    Third,
+}
+
+impl From<Place> for u8 {
+    ghost from_gives = { λ place r. r ≡ place_number place };
+
+    fn from(place: Place) -> u8 {
+        place as u8
+    }
+}
+
+/// A rule that a card breaks: its form is not 1 to 6, a number of it is out of range for its kind, or its mark is the
+/// lowest.
+#[derive(Clone, Copy, Debug, PartialEq, Eq, Hash)]
 pub enum Rule {
     Form,
     Number,
     Mark,
 }
 
-// Why a call was refused.
-#[derive(Clone, Copy, PartialEq, Eq)]
+/// Why a call was refused.
+#[derive(Clone, Copy, Debug, PartialEq, Eq, Hash)]
 pub enum Refusal {
-    // 1: the number of terms, the number of links or the length of the card table is beyond its limits.
+    /// 1: the number of terms, the number of links or the length of the card table is beyond its limits.
     Limits,
-    // 2: a table's length is not as these numbers say.
+    /// 2: a table's length is not as these numbers say.
     TableLength,
-    // 3: the form is not 1 to 6.
+    /// 3: the form is not 1 to 6.
     UnknownForm,
-    // 4, with the first such place, 1 to 3: a number is out of range for its kind, or an unused third is not 0.
-    OutOfRange(u8),
-    // 5: the mark is the lowest.
+    /// 4, with the first such place: a number is out of range for its kind, or an unused third is not 0.
+    OutOfRange(Place),
+    /// 5: the mark is the lowest.
     LowestMark,
-    // 6: the statement stands already.
+    /// 6: the statement stands already.
     AlreadyStands,
-    // 7: as many cards stand as the card table has places.
+    /// 7: as many cards stand as the card table has places.
     TableFull,
-    // 9, with the card's place in the table, from 0, and the rule: the first standing card that breaks one.
+    /// 9, with the card's place in the table, from 0, and the rule: the first standing card that breaks one.
     BrokenCard(usize, Rule),
 }
 
 impl Refusal {
-    // The refusal's number.
+    /// The refusal's number. It stays a method, for callers that have it.
     pub fn number(self) -> u8
         ensures { result ≡ number_in (refused self) }
     {
@@ -49,3 +68,14 @@ impl Refusal {
         }
     }
 }
+
+// This is written by hand, since a derived text would have no contract.
+impl fmt::Display for Refusal {
+    ghost output = { λ refusal. Some (codes "refused " ++ decimal (number_in (refused refusal))) };
+
+    fn fmt<W: fmt::Write>(&self, f: &mut fmt::Formatter<W>) -> fmt::Result {
+        write!(f, "refused {}", self.number())
+    }
+}
+
+impl Error for Refusal {}

@@ -1,12 +1,13 @@
 // The rules that a card has to keep.
-ghost use Rattle.std.specs.Prelude.{◌≡◌, ◌≤◌, length, take};
+ghost use Rattle.std.specs.Prelude.{◌≡◌, not, Some, [], ◌∷◌, length};
+ghost use Rattle.logic.specs.FormNumbers.{form_number};
 ghost use Rattle.logic.specs.Statements.{stands as stands_in};
-ghost use Rattle.catalogue.specs.Refusals.{verdict_of};
+ghost use Rattle.catalogue.specs.Refusals.{verdict_of, place_number, row};
 ghost use Rattle.catalogue.specs.Rules.{kinds as kinds_of, admits as admits_number, rule_of, refusal_of, fault_verdict, statement_verdict, card_verdict, cards_verdict, room_verdict};
 
-use super::refusals::{Refusal, Rule};
+use super::refusals::{Place, Refusal, Rule};
 use super::sizes::Size;
-use logic::{Card, Statement};
+use logic::{Card, Form, Statement, UnknownForm};
 use scale::Scale;
 
 // What a number of a statement is.
@@ -23,42 +24,62 @@ impl Kind {
         ensures { result ≡ admits_number size.n size.k self number }
     {
         match self {
-            Kind::Term => (number as usize) < size.n,
-            Kind::Link => (number as usize) < size.k,
+            Kind::Term => usize::from(number) < size.n,
+            Kind::Link => usize::from(number) < size.k,
             Kind::Unused => number == 0,
+        }
+    }
+
+    // Tests that the number at a place is in range for its kind.
+    pub(crate) fn check(self, number: u16, size: Size, place: Place) -> Result<(), Fault>
+        ensures { fault_verdict result ≡ row 4 (place_number place ∷ []) (not (admits_number size.n size.k self number)) }
+    {
+        if self.admits(number, size) {
+            Ok(())
+        } else {
+            Err(Fault::Number(place))
         }
     }
 }
 
 // What the three numbers of a form are.
-fn kinds(form: u8) -> Option<(Kind, Kind, Kind)>
-    ensures { result ≡ kinds_of form }
+fn kinds(form: Form) -> (Kind, Kind, Kind)
+    ensures { Some result ≡ kinds_of (form_number form) }
 {
     match form {
-        1 => Some((Kind::Term, Kind::Term, Kind::Unused)),
-        2 => Some((Kind::Term, Kind::Term, Kind::Term)),
-        3 => Some((Kind::Term, Kind::Link, Kind::Term)),
-        4 => Some((Kind::Link, Kind::Term, Kind::Term)),
-        5 => Some((Kind::Link, Kind::Link, Kind::Unused)),
-        6 => Some((Kind::Link, Kind::Link, Kind::Link)),
-        _ => None,
+        Form::Is => (Kind::Term, Kind::Term, Kind::Unused),
+        Form::Both => (Kind::Term, Kind::Term, Kind::Term),
+        Form::Has => (Kind::Term, Kind::Link, Kind::Term),
+        Form::From => (Kind::Link, Kind::Term, Kind::Term),
+        Form::Under => (Kind::Link, Kind::Link, Kind::Unused),
+        Form::Chain => (Kind::Link, Kind::Link, Kind::Link),
     }
 }
 
-// How a card breaks a rule, with the first place whose number is out of range.
+// How a card breaks a rule, with the first place whose number is out of range. `Rule` has these cases without the
+// place, since the refusal of a standing card names none.
 #[derive(Clone, Copy)]
 pub(crate) enum Fault {
     Form,
-    Number(u8),
+    Number(Place),
     Mark,
 }
 
-impl Fault {
-    // The rule that is broken.
-    fn rule(self) -> Rule
-        ensures { result ≡ rule_of self }
-    {
-        match self {
+impl From<UnknownForm> for Fault {
+    ghost use Rattle.catalogue.specs.declared.rules.Fault.TheVariants as fault;
+
+    ghost from_gives = { λ _ f. f ≡ fault.Form };
+
+    fn from(_error: UnknownForm) -> Fault {
+        Fault::Form
+    }
+}
+
+impl From<Fault> for Rule {
+    ghost from_gives = { λ fault r. r ≡ rule_of fault };
+
+    fn from(fault: Fault) -> Rule {
+        match fault {
             Fault::Form => Rule::Form,
             Fault::Number(_) => Rule::Number,
             Fault::Mark => Rule::Mark,
@@ -82,26 +103,17 @@ impl From<Fault> for Refusal {
 pub(crate) fn check_statement(statement: Statement, size: Size) -> Result<(), Fault>
     ensures { fault_verdict result ≡ statement_verdict size.n size.k statement }
 {
-    let Some((first, second, third)) = kinds(statement.form) else {
-        return Err(Fault::Form);
-    };
-    if !first.admits(statement.first, size) {
-        return Err(Fault::Number(1));
-    }
-    if !second.admits(statement.second, size) {
-        return Err(Fault::Number(2));
-    }
-    if !third.admits(statement.third, size) {
-        return Err(Fault::Number(3));
-    }
-    Ok(())
+    let (first, second, third) = kinds(Form::try_from(statement.form)?);
+    first.check(statement.first, size, Place::First)?;
+    second.check(statement.second, size, Place::Second)?;
+    third.check(statement.third, size, Place::Third)
 }
 
 // Tests the form, the numbers and the mark of a card.
 pub(crate) fn check_card<S: Scale>(card: &Card<S>, size: Size) -> Result<(), Fault>
     ensures { fault_verdict result ≡ card_verdict S.Scale.order size.n size.k card.now }
 {
-    check_statement(card.statement(), size)?;
+    check_statement(card.statement, size)?;
     if card.mark.at_most(S::lowest()) {
         return Err(Fault::Mark);
     }
@@ -112,41 +124,31 @@ pub(crate) fn check_card<S: Scale>(card: &Card<S>, size: Size) -> Result<(), Fau
 pub(crate) fn check_cards<S: Scale>(cards: &[Card<S>], size: Size) -> Result<(), Refusal>
     ensures { verdict_of result ≡ cards_verdict S.Scale.order size.n size.k 0 cards.now }
 {
-    for place in 0..cards.len() {
-        if let Err(fault) = check_card(&cards[place], size) {
-            return Err(Refusal::BrokenCard(place, fault.rule()));
-        }
+    for (place, card) in cards.iter().enumerate() {
+        check_card(card, size).map_err(|fault| Refusal::BrokenCard(place, fault.into()))?;
     }
     Ok(())
 }
 
-// Whether one of the first cards, up to the place `end`, has the statement.
-fn stands<S: Scale>(cards: &[Card<S>], end: usize, statement: Statement) -> bool
-    requires { end ≤ length cards.now }
-    ensures { result ≡ stands_in statement (take end cards.now) }
+// Whether one of the standing cards has the statement.
+fn stands<S: Scale>(standing: &[Card<S>], statement: Statement) -> bool
+    ensures { result ≡ stands_in statement standing.now }
 {
-    let standing = &cards[0..end];
-    for card in standing {
-        if statement.same(card.statement()) {
-            return true;
-        }
-    }
-    false
+    standing.iter().any(|card| statement == card.statement)
 }
 
-// Tests that no standing card, up to the place `end`, has the statement, and that the table has room for one more.
+// Tests that no standing card has the statement, and that a table of so many places has room for one more.
 pub(crate) fn check_room<S: Scale>(
-    cards: &[Card<S>],
-    end: usize,
+    standing: &[Card<S>],
+    capacity: usize,
     statement: Statement,
 ) -> Result<(), Refusal>
-    requires { end ≤ length cards.now }
-    ensures { verdict_of result ≡ room_verdict end (length cards.now) (take end cards.now) statement }
+    ensures { verdict_of result ≡ room_verdict (length standing.now) capacity standing.now statement }
 {
-    if stands(cards, end, statement) {
+    if stands(standing, statement) {
         return Err(Refusal::AlreadyStands);
     }
-    if end == cards.len() {
+    if standing.len() == capacity {
         return Err(Refusal::TableFull);
     }
     Ok(())

@@ -1,10 +1,10 @@
+use catalogue::Place::{First, Second, Third};
 use catalogue::{Classified, Draft, Refusal, Rule};
-use logic::{ANY, Card, NONE};
+use logic::{ANY, Card, Form, NONE, Statement, UnknownForm};
 use scale::{Grade, Pair, PerMille, Scale};
-use std::process::Abort;
 use std::test::Fail;
 
-// The terms after `any` and `none`.
+// The terms after `any` and `none`. They are plain numbers, as a card has them.
 const WET: u16 = 2;
 
 const SMOOTH: u16 = 3;
@@ -26,7 +26,8 @@ const OVER: u16 = 0;
 
 const NEAR: u16 = 1;
 
-// The forms.
+// The numbers of the forms. They are plain numbers here, as in a table that is lent, which may hold a number that is no
+// form's.
 const IS: u8 = 1;
 
 const BOTH: u8 = 2;
@@ -39,7 +40,7 @@ const UNDER: u8 = 5;
 
 const CHAIN: u8 = 6;
 
-// A card of a table below: its form, its three numbers and the number of its mark.
+// A card of a table below, in one line: its form, its three numbers and the number of its mark.
 type Record = (u8, u16, u16, u16, u16);
 
 // An ask of a table below: two terms and the number of the best mark.
@@ -142,27 +143,36 @@ static REFUSED: [(Record, Refusal); 28] = [
     ((0, WET, SLICK, 0, 700), Refusal::UnknownForm),
     ((7, WET, SLICK, 0, 700), Refusal::UnknownForm),
     ((7, 10, 10, 10, 0), Refusal::UnknownForm),
-    ((IS, 10, SLICK, 0, 700), Refusal::OutOfRange(1)),
-    ((IS, WET, 10, 0, 700), Refusal::OutOfRange(2)),
-    ((IS, WET, SLICK, 1, 700), Refusal::OutOfRange(3)),
-    ((IS, 10, 10, 1, 0), Refusal::OutOfRange(1)),
-    ((IS, WET, 10, 1, 0), Refusal::OutOfRange(2)),
-    ((IS, WET, SLICK, 1, 0), Refusal::OutOfRange(3)),
-    ((BOTH, u16::MAX, SMOOTH, SLICK, 700), Refusal::OutOfRange(1)),
-    ((BOTH, WET, u16::MAX, SLICK, 700), Refusal::OutOfRange(2)),
-    ((BOTH, WET, SMOOTH, u16::MAX, 700), Refusal::OutOfRange(3)),
-    ((HAS, 10, OVER, ICE, 700), Refusal::OutOfRange(1)),
-    ((HAS, FLOOR, 2, ICE, 700), Refusal::OutOfRange(2)),
-    ((HAS, FLOOR, OVER, 10, 700), Refusal::OutOfRange(3)),
-    ((FROM, 2, ICE, COLD, 700), Refusal::OutOfRange(1)),
-    ((FROM, OVER, 10, COLD, 700), Refusal::OutOfRange(2)),
-    ((FROM, OVER, ICE, 10, 700), Refusal::OutOfRange(3)),
-    ((UNDER, 2, NEAR, 0, 700), Refusal::OutOfRange(1)),
-    ((UNDER, OVER, 2, 0, 700), Refusal::OutOfRange(2)),
-    ((UNDER, OVER, NEAR, 1, 700), Refusal::OutOfRange(3)),
-    ((CHAIN, 2, OVER, OVER, 700), Refusal::OutOfRange(1)),
-    ((CHAIN, OVER, 2, OVER, 700), Refusal::OutOfRange(2)),
-    ((CHAIN, OVER, OVER, 2, 700), Refusal::OutOfRange(3)),
+    ((IS, 10, SLICK, 0, 700), Refusal::OutOfRange(First)),
+    ((IS, WET, 10, 0, 700), Refusal::OutOfRange(Second)),
+    ((IS, WET, SLICK, 1, 700), Refusal::OutOfRange(Third)),
+    ((IS, 10, 10, 1, 0), Refusal::OutOfRange(First)),
+    ((IS, WET, 10, 1, 0), Refusal::OutOfRange(Second)),
+    ((IS, WET, SLICK, 1, 0), Refusal::OutOfRange(Third)),
+    (
+        (BOTH, u16::MAX, SMOOTH, SLICK, 700),
+        Refusal::OutOfRange(First),
+    ),
+    (
+        (BOTH, WET, u16::MAX, SLICK, 700),
+        Refusal::OutOfRange(Second),
+    ),
+    (
+        (BOTH, WET, SMOOTH, u16::MAX, 700),
+        Refusal::OutOfRange(Third),
+    ),
+    ((HAS, 10, OVER, ICE, 700), Refusal::OutOfRange(First)),
+    ((HAS, FLOOR, 2, ICE, 700), Refusal::OutOfRange(Second)),
+    ((HAS, FLOOR, OVER, 10, 700), Refusal::OutOfRange(Third)),
+    ((FROM, 2, ICE, COLD, 700), Refusal::OutOfRange(First)),
+    ((FROM, OVER, 10, COLD, 700), Refusal::OutOfRange(Second)),
+    ((FROM, OVER, ICE, 10, 700), Refusal::OutOfRange(Third)),
+    ((UNDER, 2, NEAR, 0, 700), Refusal::OutOfRange(First)),
+    ((UNDER, OVER, 2, 0, 700), Refusal::OutOfRange(Second)),
+    ((UNDER, OVER, NEAR, 1, 700), Refusal::OutOfRange(Third)),
+    ((CHAIN, 2, OVER, OVER, 700), Refusal::OutOfRange(First)),
+    ((CHAIN, OVER, 2, OVER, 700), Refusal::OutOfRange(Second)),
+    ((CHAIN, OVER, OVER, 2, 700), Refusal::OutOfRange(Third)),
     ((IS, SLICK, WET, 0, 0), Refusal::LowestMark),
     ((IS, WET, SLICK, 0, 0), Refusal::LowestMark),
     ((IS, WET, SLICK, 0, 700), Refusal::AlreadyStands),
@@ -192,12 +202,21 @@ static LENGTHS: [(usize, usize, usize); 6] = [
     (4, 100, 201),
 ];
 
+static FORMS: [(Form, u8); 6] = [
+    (Form::Is, 1),
+    (Form::Both, 2),
+    (Form::Has, 3),
+    (Form::From, 4),
+    (Form::Under, 5),
+    (Form::Chain, 6),
+];
+
 static NUMBERS: [(Refusal, u8); 10] = [
     (Refusal::Limits, 1),
     (Refusal::TableLength, 2),
     (Refusal::UnknownForm, 3),
-    (Refusal::OutOfRange(1), 4),
-    (Refusal::OutOfRange(3), 4),
+    (Refusal::OutOfRange(First), 4),
+    (Refusal::OutOfRange(Third), 4),
     (Refusal::LowestMark, 5),
     (Refusal::AlreadyStands, 6),
     (Refusal::TableFull, 7),
@@ -212,49 +231,28 @@ fn mark(number: u16) -> Result<PerMille, Fail> {
 fn card(record: Record) -> Result<Card<PerMille>, Fail> {
     let (form, first, second, third, number) = record;
     let mark = mark(number)?;
-    Ok(Card {
+    let statement = Statement {
         form,
         first,
         second,
         third,
-        mark,
-    })
+    };
+    Ok(Card { statement, mark })
 }
 
 // What a call that is not refused answers.
 fn answered<T, E: Drop>(res: Result<T, E>) -> Result<T, Fail> {
-    match res {
-        Ok(answer) => Ok(answer),
-        Err(_) => Err(Fail::new("the call is refused")),
-    }
+    Ok(res.ok().ok_or("the call is refused")?)
 }
 
 // What a call that is refused hands back.
 fn refused<T: Drop, E>(res: Result<T, E>) -> Result<E, Fail> {
-    match res {
-        Ok(_) => Err(Fail::new("the call is not refused")),
-        Err(back) => Ok(back),
-    }
-}
-
-// Whether two card tables hold the same records.
-fn are_same(these: &[Card<PerMille>], those: &[Card<PerMille>]) -> bool {
-    for (this, that) in these.iter().zip(those.iter()) {
-        if !this.statement().same(that.statement()) || this.mark != that.mark {
-            return false;
-        }
-    }
-    these.len() == those.len()
+    Ok(res.err().ok_or("the call is not refused")?)
 }
 
 // Whether every cell holds the mark.
 fn hold(cells: &[PerMille], mark: PerMille) -> bool {
-    for cell in cells {
-        if *cell != mark {
-            return false;
-        }
-    }
-    true
+    cells.iter().all(|cell| *cell == mark)
 }
 
 // The tables of a catalogue of ten terms, two links and up to four cards.
@@ -286,30 +284,25 @@ impl<S: Scale> Tables<S> {
 
 #[test]
 fn best_marks(rt: HostRuntime) -> Result<(), Fail> {
-    for (records, asks) in CASES.iter() {
+    for &(records, asks) in &CASES {
         let mut tables = Tables::of(PerMille::lowest());
         let mut draft = tables.draft()?;
-        for record in *records {
-            assert!(rt; draft.file(&mut tables.cards, card(*record)?) == Ok(()));
+        for &record in records {
+            answered(draft.file(&mut tables.cards, card(record)?))?;
         }
         let classified = tables.classify(draft)?;
-        for (a, b, number) in *asks {
-            assert!(rt; classified.ask(&tables.pairs, *a, *b) == Ok(mark(*number)?));
+        for &(a, b, number) in asks {
+            assert!(rt; classified.ask(&tables.pairs, a, b) == Ok(mark(number)?));
         }
     }
     Ok(())
 }
 
 // The best mark of wet in risky, over `is wet slick` and `is slick risky`.
-fn over_two_cards<S: Scale>(
-    rt: &impl Abort,
-    tables: &mut Tables<S>,
-    first: S,
-    second: S,
-) -> Result<S, Fail> {
+fn over_two_cards<S: Scale>(tables: &mut Tables<S>, first: S, second: S) -> Result<S, Fail> {
     let mut draft = tables.draft()?;
-    assert!(rt; draft.file(&mut tables.cards, Card::is(WET, SLICK, first)) == Ok(()));
-    assert!(rt; draft.file(&mut tables.cards, Card::is(SLICK, RISKY, second)) == Ok(()));
+    answered(draft.file(&mut tables.cards, Card::is(WET, SLICK, first)))?;
+    answered(draft.file(&mut tables.cards, Card::is(SLICK, RISKY, second)))?;
     let classified = tables.classify(draft)?;
     answered(classified.ask(&tables.pairs, WET, RISKY))
 }
@@ -317,7 +310,7 @@ fn over_two_cards<S: Scale>(
 #[test]
 fn best_marks_on_other_scales(rt: HostRuntime) -> Result<(), Fail> {
     let mut tables = Tables::of(Grade::Full);
-    assert!(rt; over_two_cards(&rt, &mut tables, Grade::Strong, Grade::Trace)? == Grade::Trace);
+    assert!(rt; over_two_cards(&mut tables, Grade::Strong, Grade::Trace)? == Grade::Trace);
     let strong = Pair {
         first: Grade::Strong,
         second: mark(100)?,
@@ -327,18 +320,18 @@ fn best_marks_on_other_scales(rt: HostRuntime) -> Result<(), Fail> {
         second: mark(900)?,
     };
     let mut tables = Tables::of(strong);
-    assert!(rt; over_two_cards(&rt, &mut tables, strong, partial)? == partial);
+    assert!(rt; over_two_cards(&mut tables, strong, partial)? == partial);
     Ok(())
 }
 
 #[test]
 fn build_limits_and_lengths(rt: HostRuntime) -> Result<(), Fail> {
-    for (n, k, c, cards, pairs, links, refusal) in BUILDS.iter() {
-        let cards = vec![in rt.alloc(); Card::is(ANY, ANY, Grade::Full); *cards]?;
-        let pairs = vec![in rt.alloc(); Grade::Full; *pairs]?;
-        let links = vec![in rt.alloc(); Grade::Full; *links]?;
-        let built = Draft::build(*n, *k, *c, &cards, &pairs, &links);
-        assert!(rt; built.err() == *refusal);
+    for &(n, k, c, cards, pairs, links, refusal) in &BUILDS {
+        let cards = vec![in rt.alloc(); Card::is(ANY, ANY, Grade::Full); cards]?;
+        let pairs = vec![in rt.alloc(); Grade::Full; pairs]?;
+        let links = vec![in rt.alloc(); Grade::Full; links]?;
+        let built = Draft::build(n, k, c, &cards, &pairs, &links);
+        assert_eq!(rt; built.err(), refusal);
     }
     Ok(())
 }
@@ -347,17 +340,17 @@ fn build_limits_and_lengths(rt: HostRuntime) -> Result<(), Fail> {
 fn refused_cards_leave_the_table(rt: HostRuntime) -> Result<(), Fail> {
     let mut tables = Tables::of(PerMille::highest());
     let mut draft = tables.draft()?;
-    assert!(rt; draft.file(&mut tables.cards, Card::is(WET, SLICK, mark(700)?)) == Ok(()));
+    answered(draft.file(&mut tables.cards, Card::is(WET, SLICK, mark(700)?)))?;
     let before = tables.cards;
-    for (record, refusal) in REFUSED.iter() {
-        assert!(rt; draft.file(&mut tables.cards, card(*record)?) == Err(*refusal));
-        assert!(rt; are_same(&tables.cards, &before));
+    for &(record, refusal) in &REFUSED {
+        assert!(rt; draft.file(&mut tables.cards, card(record)?) == Err(refusal));
+        assert!(rt; tables.cards == before);
     }
     let next = Card::is(ANY, ANY, mark(1)?);
-    assert!(rt; draft.file(&mut tables.cards, next) == Ok(()));
+    answered(draft.file(&mut tables.cards, next))?;
     let last = Card::has(COLD, NEAR, COLD, mark(1)?);
-    assert!(rt; draft.file(&mut tables.cards, last) == Ok(()));
-    assert!(rt; are_same(&tables.cards, &[before[0], next, last, before[3]]));
+    answered(draft.file(&mut tables.cards, last))?;
+    assert!(rt; tables.cards == [before[0], next, last, before[3]]);
     Ok(())
 }
 
@@ -372,9 +365,9 @@ fn full_tables(rt: HostRuntime) -> Result<(), Fail> {
     let mut tables = Tables::of(PerMille::highest());
     let mut draft = tables.draft()?;
     let standing = Card::under(OVER, NEAR, mark(200)?);
-    assert!(rt; draft.file(&mut tables.cards, standing) == Ok(()));
+    answered(draft.file(&mut tables.cards, standing))?;
     for b in WET..RISKY {
-        assert!(rt; draft.file(&mut tables.cards, Card::is(ICE, b, mark(1)?)) == Ok(()));
+        answered(draft.file(&mut tables.cards, Card::is(ICE, b, mark(1)?)))?;
     }
     let before = tables.cards;
     let again = Card::under(OVER, NEAR, mark(300)?);
@@ -383,7 +376,7 @@ fn full_tables(rt: HostRuntime) -> Result<(), Fail> {
     assert!(rt; draft.file(&mut tables.cards, other) == Err(Refusal::TableFull));
     assert!(rt; draft.file(&mut tables.cards[0..3], other) == Err(Refusal::TableLength));
     assert!(rt; draft.file(&mut [other; 5], other) == Err(Refusal::TableLength));
-    assert!(rt; are_same(&tables.cards, &before));
+    assert!(rt; tables.cards == before);
     Ok(())
 }
 
@@ -391,16 +384,16 @@ fn full_tables(rt: HostRuntime) -> Result<(), Fail> {
 fn classify_refuses_other_lengths(rt: HostRuntime) -> Result<(), Fail> {
     let filler = mark(123)?;
     let next = Card::is(WET, SLICK, filler);
-    for (cards, pairs, links) in LENGTHS.iter() {
+    for &(cards, pairs, links) in &LENGTHS {
         let mut tables = Tables::of(filler);
         let draft = tables.draft()?;
-        let cards = vec![in rt.alloc(); next; *cards]?;
-        let mut pairs = vec![in rt.alloc(); filler; *pairs]?;
-        let mut links = vec![in rt.alloc(); filler; *links]?;
+        let cards = vec![in rt.alloc(); next; cards]?;
+        let mut pairs = vec![in rt.alloc(); filler; pairs]?;
+        let mut links = vec![in rt.alloc(); filler; links]?;
         let (mut draft, refusal) = refused(draft.classify(&cards, &mut pairs, &mut links))?;
-        assert!(rt; refusal == Refusal::TableLength);
+        assert_eq!(rt; refusal, Refusal::TableLength);
         assert!(rt; hold(&pairs, filler) && hold(&links, filler));
-        assert!(rt; draft.file(&mut tables.cards, next) == Ok(()));
+        answered(draft.file(&mut tables.cards, next))?;
         let classified = tables.classify(draft)?;
         assert!(rt; classified.ask(&tables.pairs, WET, SLICK) == Ok(filler));
     }
@@ -410,22 +403,21 @@ fn classify_refuses_other_lengths(rt: HostRuntime) -> Result<(), Fail> {
 #[test]
 fn classify_names_the_first_broken_card(rt: HostRuntime) -> Result<(), Fail> {
     let filler = mark(123)?;
-    for (place, record, rule) in BROKEN_RECORDS.iter() {
-        let place = *place;
+    for &(place, record, rule) in &BROKEN_RECORDS {
         let mut tables = Tables::of(filler);
         let mut draft = tables.draft()?;
         for b in WET..RISKY {
-            assert!(rt; draft.file(&mut tables.cards, Card::is(ICE, b, mark(700)?)) == Ok(()));
+            answered(draft.file(&mut tables.cards, Card::is(ICE, b, mark(700)?)))?;
         }
         let whole = tables.cards;
         let broken = card((9, 10, 10, 10, 0))?;
         tables.cards[2] = broken;
         tables.cards[3] = broken;
         assert!(rt; place < 3);
-        tables.cards[place] = card(*record)?;
+        tables.cards[place] = card(record)?;
         let result = draft.classify(&tables.cards, &mut tables.pairs, &mut tables.links);
         let (draft, refusal) = refused(result)?;
-        assert!(rt; refusal == Refusal::BrokenCard(place, *rule));
+        assert_eq!(rt; refusal, Refusal::BrokenCard(place, rule));
         assert!(rt; hold(&tables.pairs, filler) && hold(&tables.links, filler));
         tables.cards = whole;
         tables.cards[3] = broken;
@@ -442,9 +434,9 @@ fn refused_asks(rt: HostRuntime) -> Result<(), Fail> {
     let classified = tables.classify(draft)?;
     assert!(rt; classified.ask(&tables.pairs[0..99], 10, 10) == Err(Refusal::TableLength));
     assert!(rt; classified.ask(&[Grade::Full; 101], WET, WET) == Err(Refusal::TableLength));
-    assert!(rt; classified.ask(&tables.pairs, 10, COLD) == Err(Refusal::OutOfRange(1)));
-    assert!(rt; classified.ask(&tables.pairs, COLD, 10) == Err(Refusal::OutOfRange(2)));
-    assert!(rt; classified.ask(&tables.pairs, 10, u16::MAX) == Err(Refusal::OutOfRange(1)));
+    assert!(rt; classified.ask(&tables.pairs, 10, COLD) == Err(Refusal::OutOfRange(First)));
+    assert!(rt; classified.ask(&tables.pairs, COLD, 10) == Err(Refusal::OutOfRange(Second)));
+    assert!(rt; classified.ask(&tables.pairs, 10, u16::MAX) == Err(Refusal::OutOfRange(First)));
     assert!(rt; classified.ask(&tables.pairs, COLD, COLD) == Ok(Grade::Full));
     Ok(())
 }
@@ -456,11 +448,11 @@ fn the_most_terms_and_links(rt: HostRuntime) -> Result<(), Fail> {
     let mut pairs = vec![in rt.alloc(); low; 65536]?;
     let mut links = vec![in rt.alloc(); low; 2097152]?;
     let mut draft = answered(Draft::build(256, 32, 5, &cards, &pairs, &links))?;
-    assert!(rt; draft.file(&mut cards, Card::has(255, 31, 254, mark(900)?)) == Ok(()));
-    assert!(rt; draft.file(&mut cards, Card::has(254, 31, 255, mark(800)?)) == Ok(()));
-    assert!(rt; draft.file(&mut cards, Card::chain(31, 31, 31, mark(1000)?)) == Ok(()));
-    assert!(rt; draft.file(&mut cards, Card::is(255, 253, mark(700)?)) == Ok(()));
-    assert!(rt; draft.file(&mut cards, Card::from(31, 253, 252, mark(950)?)) == Ok(()));
+    answered(draft.file(&mut cards, Card::has(255, 31, 254, mark(900)?)))?;
+    answered(draft.file(&mut cards, Card::has(254, 31, 255, mark(800)?)))?;
+    answered(draft.file(&mut cards, Card::chain(31, 31, 31, mark(1000)?)))?;
+    answered(draft.file(&mut cards, Card::is(255, 253, mark(700)?)))?;
+    answered(draft.file(&mut cards, Card::from(31, 253, 252, mark(950)?)))?;
     let classified = answered(draft.classify(&cards, &mut pairs, &mut links))?;
     assert!(rt; classified.ask(&pairs, 255, 252) == Ok(mark(700)?));
     Ok(())
@@ -479,9 +471,36 @@ fn the_fewest_terms_and_links(rt: HostRuntime) -> Result<(), Fail> {
 
 #[test]
 fn refusal_numbers(rt: HostRuntime) {
-    for (refusal, number) in NUMBERS.iter() {
-        assert!(rt; refusal.number() == *number);
+    for &(refusal, number) in &NUMBERS {
+        assert_eq!(rt; refusal.number(), number);
     }
+}
+
+#[test]
+fn forms_and_places_by_number(rt: HostRuntime) -> Result<(), Fail> {
+    for &(form, number) in &FORMS {
+        assert_eq!(rt; u8::from(form), number);
+        assert_eq!(rt; Form::try_from(number), Ok(form));
+    }
+    for number in [0, 7, u8::MAX] {
+        assert_eq!(rt; Form::try_from(number), Err(UnknownForm(number)));
+    }
+    assert_eq!(rt;
+        (u8::from(First), u8::from(Second), u8::from(Third)),
+        (1, 2, 3)
+    );
+    let refusal = Refusal::OutOfRange(Third);
+    let text = format!(in rt.alloc(); "{}, {refusal}", UnknownForm(7))?;
+    assert_eq!(rt; text.as_str(), "no form has the number 7, refused 4");
+    Ok(())
+}
+
+#[test]
+fn statements_of_cards(rt: HostRuntime) {
+    let statement = Card::both(WET, SMOOTH, SLICK, Grade::Trace).statement();
+    assert!(rt; statement.same(Card::both(WET, SMOOTH, SLICK, Grade::Full).statement()));
+    assert!(rt; !statement.same(Card::both(WET, SLICK, SMOOTH, Grade::Trace).statement()));
+    assert!(rt; !statement.same(Card::chain(WET, SMOOTH, SLICK, Grade::Trace).statement()));
 }
 
 // How strongly something wet is slick; none where a call is refused.

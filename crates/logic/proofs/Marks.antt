@@ -1,6 +1,6 @@
 -- The marks that can be derived: the lowest, the highest and the cards' own. Assumes nothing.
-use Rattle.std.proofs.Common.{ℕ, List, map, refl, ap, inl, inr}
-use mathlib.Core.List.{Memᴰ}
+use Rattle.std.proofs.Common.{ℕ, List, refl, inl, inr}
+use mathlib.Core.List.Memᴰ
 use Rattle.std.proofs.lemmas.Bool.{cond_both}
 use Rattle.scale.specs.Order.{Chain, lower}
 use Rattle.logic.specs.Axioms.{Axiom, mark_of, In}
@@ -10,12 +10,8 @@ use Rattle.logic.specs.Derivations.{Cell, Derives, start, self, top, by_is, by_b
 pub among_lower : {M : Type 0} (C : Chain M) (ms : List M) (a b : M) → Among C ms a → Among C ms b → Among C ms (lower C a b)
 among_lower C ms a b p q = cond_both (C.leq a b) a b (Among C ms) (λ _. p) (λ _. q)
 
-mark_in : {M : Type 0} {a : Axiom M} {l : List (Axiom M)} → In a l → Memᴰ (mark_of a) (map mark_of l)
-mark_in (Memᴰ.head e) = Memᴰ.head (ap mark_of e)
-mark_in (Memᴰ.tail i) = Memᴰ.tail (mark_in i)
-
 own : {M : Type 0} (C : Chain M) {axioms : List (Axiom M)} {a : Axiom M} → In a axioms → Among C (marks C axioms) (mark_of a)
-own C i = inr (Memᴰ.tail (mark_in i))
+own C i = inr (Memᴰ.tail (Memᴰ.map mark_of i))
 
 module _ {M : Type 0} {C : Chain M} {n k : ℕ} {axioms : List (Axiom M)} where
   pub among : {c : Cell} {m : M} → Derives C n k axioms c m → Among C (marks C axioms) m

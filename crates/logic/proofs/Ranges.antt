@@ -1,7 +1,8 @@
 -- Derivations stay among the terms and links that there are. Assumes nothing.
 use Rattle.std.proofs.Common.{ℕ, ◌<◌, List, arith}
 use Rattle.scale.specs.Order.{Chain}
-use Rattle.logic.specs.Axioms.{Axiom, AllInRange}
+use Rattle.std.proofs.Math.Bridge.{le_prop}
+use Rattle.logic.specs.Axioms.{Axiom, is, both, has, from, under, chain, InRange, AllInRange}
 use Rattle.logic.specs.Derivations.{Cell, Within, Derives, start, self, top, by_is, by_both, by_has, by_from, by_under, by_chain, widen, fall}
 
 module _ {M : Type 0} {C : Chain M} {n k : ℕ} {axioms : List (Axiom M)} (two : 1 < n) (ranges : AllInRange n k axioms) where
@@ -17,3 +18,12 @@ module _ {M : Type 0} {C : Chain M} {n k : ℕ} {axioms : List (Axiom M)} (two :
   within (by_chain i d e) = ((within d).0, (ranges _ i).2, (within e).2)
   within (widen ne d e) = ((within d).0, (within d).1, (within e).1)
   within (fall d e) = ((within d).0, two)
+
+-- whether an axiom is in range is a proposition
+pub InRange-prop : {M : Type 0} (n k : ℕ) (a : Axiom M) → IsProp (InRange n k a)
+InRange-prop n k (is A B m) = hlevel le_prop
+InRange-prop n k (both A B C m) = hlevel le_prop
+InRange-prop n k (has A r B m) = hlevel le_prop
+InRange-prop n k (from r A B m) = hlevel le_prop
+InRange-prop n k (under r s m) = hlevel le_prop
+InRange-prop n k (chain r q s m) = hlevel le_prop

@@ -1,41 +1,23 @@
 -- `stands` is what its words say. Assumes nothing.
-use Rattle.std.proofs.Common.{◌≡◌, true, false, eqb, List, [], ◌∷◌, sym, refl, ap, ◌∙◌, subst, inl, inr}
+use Rattle.std.proofs.Common.{◌≡◌, [], ◌∷◌, Decides, sym, refl, ap, ◌∙◌, inl, inr}
 use mathlib.Core.List.Memᴰ
-use mathlib.Core.List.{Memᴰ}
-use Rattle.std.proofs.lemmas.Bool.{and_parts, and_from, or_cases, or_left, or_right, eqb-true, eq-eqb, both_ways}
-use Rattle.logic.specs.declared.cards.Card.{Card}
+use Rattle.std.proofs.lemmas.Bool.{false≢true}
+use Rattle.std.proofs.lemmas.Bool.Decides.{Decides-and, Decides-or, Decides-eqb, Decides-like}
 use Rattle.logic.specs.declared.cards.Statement.{Statement}
 use Rattle.logic.specs.Statements.{statement_of, same, stands, StandsInWords}
 
-same_true : (s t : Statement) → same s t ≡ true → t ≡ s
-same_true s t e =
-    let (p, e₁) = and_parts (eqb s.form t.form) _ e in
-    let (q, e₂) = and_parts (eqb s.first t.first) _ e₁ in
-    let (r, u) = and_parts (eqb s.second t.second) (eqb s.third t.third) e₂ in
-    λ i. record { form = sym (eqb-true _ _ p) i; first = sym (eqb-true _ _ q) i; second = sym (eqb-true _ _ r) i; third = sym (eqb-true _ _ u) i }
-
-same_refl : (s : Statement) → same s s ≡ true
-same_refl s =
-    and_from (eqb s.form s.form) _ (eq-eqb s.form s.form refl)
-    (and_from (eqb s.first s.first) _ (eq-eqb s.first s.first refl)
-    (and_from (eqb s.second s.second) (eqb s.third s.third) (eq-eqb s.second s.second refl) (eq-eqb s.third s.third refl)))
-
-module _ {M : Type 0} (s : Statement) where
-  found : (cards : List (Card M)) → stands s cards ≡ true → (card : Card M) × Memᴰ card cards × (statement_of card ≡ s)
-  found [] e = absurd (both_ways false refl e)
-  found (card ∷ cards) e =
-      elim (or_cases (same s (statement_of card)) (stands s cards) e) [
-        | inl here ↦ (card, Memᴰ.head refl, same_true s (statement_of card) here)
-        | inr there ↦ let (c, i, h) = found cards there in (c, Memᴰ.tail i, h)
-      ]
-
-  standing : (cards : List (Card M)) (card : Card M) → Memᴰ card cards → statement_of card ≡ s → stands s cards ≡ true
-  standing [] card i h = absurd (Memᴰ.not-nil i)
-  standing (c ∷ cards) card i h =
-      elim (Memᴰ.cases_cons i) [
-        | inl e ↦ or_left (same s (statement_of c)) (stands s cards) (subst (λ t. same s t ≡ true) (sym h ∙ ap statement_of e) (same_refl s))
-        | inr t ↦ or_right (same s (statement_of c)) (stands s cards) (standing cards card t h)
-      ]
+same_decides : (s t : Statement) → Decides (same s t) (t ≡ s)
+same_decides s t =
+    Decides-like (same s t)
+    (λ h i. record { form = sym h.0 i; first = sym h.1.0 i; second = sym h.1.1.0 i; third = sym h.1.1.1 i })
+    (λ e. (ap (λ u. u.form) (sym e), (ap (λ u. u.first) (sym e), (ap (λ u. u.second) (sym e), ap (λ u. u.third) (sym e)))))
+    (Decides-and _ _ (Decides-eqb s.form t.form) (Decides-and _ _ (Decides-eqb s.first t.first) (Decides-and _ _ (Decides-eqb s.second t.second) (Decides-eqb s.third t.third))))
 
 pub stands_in_words : (M : Type 0) → StandsInWords M
-stands_in_words M s cards = (found s cards, λ f. standing s cards f.0 f.1 f.2)
+unfolding StandsInWords
+stands_in_words M s [] = (λ e. absurd (false≢true e), λ f. absurd (Memᴰ.not-nil f.1))
+stands_in_words M s (card ∷ cards) =
+    Decides-like (stands s (card ∷ cards))
+    (λ o. elim o [ inl e ↦ (card, Memᴰ.head refl, e) | inr f ↦ (f.0, Memᴰ.tail f.1, f.2) ])
+    (λ f. elim (Memᴰ.cases_cons f.1) [ inl e ↦ inl (ap statement_of (sym e) ∙ f.2) | inr i ↦ inr (f.0, i, f.2) ])
+    (Decides-or _ _ (same_decides s (statement_of card)) (stands_in_words M s cards))

@@ -1,5 +1,6 @@
 pub mod Axioms
 pub mod Records
+pub mod FormNumbers
 pub mod Statements
 pub mod Derivations
 pub mod Tables

@@ -4,7 +4,7 @@ use Rattle.logic.specs.Axioms.{Axiom, is, both, has, from, under, chain}
 use Rattle.logic.specs.declared.cards.Card.{Card}
 
 abbrev pub card_with : {M : Type 0} → (form first second third : ℕ) → M → Card M
-card_with form first second third mark = record { form = form; first = first; second = second; third = third; mark = mark }
+card_with form first second third mark = record { statement = record { form = form; first = first; second = second; third = third }; mark = mark }
 
 -- the record of an axiom: its form, its numbers in the order of the line, and its mark; the third number is 0 in the forms 1 and 5
 abbrev pub card_of : {M : Type 0} → Axiom M → Card M
@@ -27,7 +27,7 @@ by_form (suc (suc (suc (suc (suc (suc (suc f))))))) a b c m = []
 
 -- the axiom that a record says; none where its form is not 1 to 6
 abbrev pub says : {M : Type 0} → Card M → List (Axiom M)
-says card = by_form card.form card.first card.second card.third card.mark
+says card = by_form card.statement.form card.statement.first card.statement.second card.statement.third card.mark
 
 -- what a list of records says
 abbrev pub axioms : {M : Type 0} → List (Card M) → List (Axiom M)

@@ -5,7 +5,7 @@ use Rattle.logic.specs.declared.cards.Card.{Card}
 use Rattle.logic.specs.declared.cards.Statement.{Statement}
 
 abbrev pub statement_of : {M : Type 0} → Card M → Statement
-statement_of card = record { form = card.form; first = card.first; second = card.second; third = card.third }
+statement_of card = card.statement
 
 -- form and numbers are equal place by place
 abbrev pub same : Statement → Statement → Bool
@@ -17,5 +17,5 @@ stands s [] = false
 stands s (card ∷ cards) = same s (statement_of card) || stands s cards
 
 -- the same in words
-abbrev pub StandsInWords : Type 0 → Type 0
+unfoldable pub StandsInWords : Type 0 → Type 0
 StandsInWords M = (s : Statement) (cards : List (Card M)) → Decides (stands s cards) ((card : Card M) × Memᴰ card cards × (statement_of card ≡ s))

@@ -3,4 +3,4 @@
 
 mod cards;
 
-pub use cards::{ANY, Card, NONE, Statement};
+pub use cards::{ANY, Card, Form, NONE, Statement, UnknownForm};

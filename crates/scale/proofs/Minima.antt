@@ -23,7 +23,3 @@ module _ {M : Type 0} {C : Chain M} (laws : Laws C) where
   pub lower_mono : (a b c d : M) → AtMost C a c → AtMost C b d → AtMost C (lower C a b) (lower C c d)
   lower_mono a b c d p q =
       lower_greatest (lower C a b) c d (laws.trans _ a c (lower_left a b) p) (laws.trans _ b d (lower_right a b) q)
-
-  -- the lower of the lowest mark and another is at most every mark
-  pub lower_of_low : (a b z : M) → AtMost C a C.low → AtMost C (lower C a b) z
-  lower_of_low a b z h = laws.trans _ a z (lower_left a b) (laws.trans a C.low z h (laws.least z))

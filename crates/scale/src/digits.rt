@@ -5,7 +5,7 @@ ghost use Rattle.scale.specs.Thousandths.{digit, IsDigitOf};
 use std::error::Error;
 use std::fmt;
 
-// A decimal digit.
+/// A decimal digit.
 #[derive(Clone, Copy, Debug, PartialEq, Eq, PartialOrd, Ord, Hash)]
 pub enum Digit {
     Zero,
@@ -20,7 +20,7 @@ pub enum Digit {
     Nine,
 }
 
-// A number above nine, which no digit has.
+/// The error of a conversion to a digit, with the number that was to be converted.
 #[derive(Clone, Copy, Debug, PartialEq, Eq, Hash)]
 pub struct NotADigit(pub u16);
 

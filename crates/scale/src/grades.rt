@@ -8,7 +8,7 @@ use super::order::Scale;
 use super::writing::{Written, put};
 use std::fmt;
 
-// How strongly something holds, rising from absent to full.
+/// How strongly something holds, rising from absent to full.
 #[derive(Clone, Copy, Debug, PartialEq, Eq, PartialOrd, Ord, Hash)]
 pub enum Grade {
     Absent,
@@ -78,10 +78,12 @@ impl Written for Grade {
     }
 
     fn read(word: &[u8]) -> Option<Grade> {
-        GRADES
-            .iter()
-            .copied()
-            .find(|grade| grade.word().as_bytes() == word)
+        for grade in GRADES {
+            if grade.word().as_bytes() == word {
+                return Some(grade);
+            }
+        }
+        None
     }
 }
 

@@ -5,7 +5,7 @@ ghost use Rattle.scale.specs.Lexical.{pair_laws};
 
 use super::order::Scale;
 
-// One mark of each of two scales. The first parts decide, and where they are equal the second parts do.
+/// One mark of each of two scales. The first parts decide, and where they are equal the second parts do.
 #[derive(Clone, Copy, Debug, PartialEq, Eq, PartialOrd, Ord, Hash)]
 pub struct Pair<A, B> {
     pub first: A,

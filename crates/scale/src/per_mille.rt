@@ -10,8 +10,8 @@ use super::writing::{Written, put};
 use itoa::Buffer;
 use std::fmt;
 
-// A whole number from 0 to 1000: three digits, the hundreds first, or the thousand. The derived order, by the variants
-// and then by the digits, is the order of the numbers.
+/// A whole number from 0 to 1000: three digits, the hundreds first, or the thousand. The derived order, by the variants
+/// and then by the digits, is the order of the numbers.
 #[derive(Clone, Copy, Debug, PartialEq, Eq, PartialOrd, Ord, Hash)]
 pub enum PerMille {
     Digits(Digit, Digit, Digit),
@@ -19,8 +19,8 @@ pub enum PerMille {
 }
 
 impl PerMille {
-    // The mark of a number from 0 to 1000. With `value` it is a checked constructor and its accessor, which `TryFrom` and
-    // `From` would only say once more.
+    /// The mark of a number from 0 to 1000. With `value` it is a checked constructor and its accessor, which `TryFrom`
+    /// and `From` would only say once more.
     #[tactic(auto, using(crate::specs::Marks::mille_whole))]
     pub fn new(number: u16) -> Option<PerMille>
         ensures mark { MatchOption result (1000 < number) (λ m. thousandths m ≡ number) }
@@ -35,7 +35,7 @@ impl PerMille {
         Some(PerMille::Digits(hundreds, tens, ones))
     }
 
-    // The number that the mark is.
+    /// The number that the mark is.
     pub fn value(self) -> u16
         ensures { result ≡ thousandths self }
     {

@@ -10,7 +10,7 @@ use super::per_mille::PerMille;
 use super::writing::{Written, end_of, put};
 use std::fmt;
 
-// A ranked mark: a grade, and a per-mille mark within it.
+/// A ranked mark: a grade, and a per-mille mark within it.
 pub type Ranked = Pair<Grade, PerMille>;
 
 impl Written for Pair<Grade, PerMille> {
@@ -28,6 +28,7 @@ impl Written for Pair<Grade, PerMille> {
     }
 
     fn print(self, out: &mut [u8], at: usize) -> Option<usize> {
+        // Room for the whole form comes first, so that `out` is unchanged where there is none.
         end_of(out.len(), at, self.printed_len())?;
         let cut = self.first.print(out, at)?;
         let rest = put(b"/", out, cut)?;

@@ -4,7 +4,7 @@ ghost use Rattle.std.proofs.Common.{rules};
 
 use scale::Scale;
 
-// Off or on.
+/// Off or on.
 #[derive(Clone, Copy, Debug, PartialEq, Eq, PartialOrd, Ord, Hash)]
 pub enum Switch {
     Off,

@@ -1,5 +1,5 @@
 use super::Switch;
-use scale::{Grade, Pair, PerMille, Ranked, Scale, Written, lower, read_back};
+use scale::{Grade, NotADigit, Pair, PerMille, Ranked, Scale, Written, lower, read_back};
 use std::fmt::Debug;
 use std::process::Abort;
 use std::test::Fail;
@@ -148,6 +148,8 @@ fn marks_by_display(rt: HostRuntime) -> Result<(), Fail> {
     let mark = ranked(Grade::Strong, 100)?;
     let text = format!(in rt.alloc(); "{}, {}, {mark}", mark.first, mark.second)?;
     assert_eq!(rt; text.as_str(), "strong, 100, strong/100");
+    let text = format!(in rt.alloc(); "{}", NotADigit(10))?;
+    assert_eq!(rt; text.as_str(), "10 is not a digit");
     Ok(())
 }
 

@@ -23,7 +23,7 @@ words (suc (suc (suc (suc (suc (suc (suc f))))))) a b c = []
 
 -- as `is wet slick 700`
 abbrev pub card_line : Card PerMille → List ℕ
-card_line card = line (words card.form card.first card.second card.third) (mille_bytes card.mark)
+card_line card = line (words card.statement.form card.statement.first card.statement.second card.statement.third) (mille_bytes card.mark)
 
 -- as `wet risky 400`
 abbrev pub answer_line : (A B : ℕ) → PerMille → List ℕ

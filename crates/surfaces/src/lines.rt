@@ -3,12 +3,12 @@ ghost use Rattle.std.specs.Prelude.{Some};
 ghost use Rattle.surfaces.specs.Lines.{card_line, answer_line};
 
 use super::names::{link, term};
-use logic::Card;
+use logic::{Card, Form};
 use scale::PerMille;
 use std::fmt;
 
 // A card as its line, as `is wet slick 700`.
-#[derive(Clone, Copy)]
+#[derive(Clone, Copy, Debug)]
 pub struct CardLine {
     pub card: Card<PerMille>,
 }
@@ -17,46 +17,22 @@ impl fmt::Display for CardLine {
     ghost output = { λ line. Some (card_line line.card) };
 
     fn fmt<W: fmt::Write>(&self, f: &mut fmt::Formatter<W>) -> fmt::Result {
-        let (first, second, third) = (self.card.first, self.card.second, self.card.third);
-        let mark = self.card.mark.value();
-        match self.card.form {
-            1 => write!(f, "is {} {} {mark}", term(first), term(second)),
-            2 => write!(
-                f,
-                "both {} {} {} {mark}",
-                term(first),
-                term(second),
-                term(third)
-            ),
-            3 => write!(
-                f,
-                "has {} {} {} {mark}",
-                term(first),
-                link(second),
-                term(third)
-            ),
-            4 => write!(
-                f,
-                "from {} {} {} {mark}",
-                link(first),
-                term(second),
-                term(third)
-            ),
-            5 => write!(f, "under {} {} {mark}", link(first), link(second)),
-            6 => write!(
-                f,
-                "chain {} {} {} {mark}",
-                link(first),
-                link(second),
-                link(third)
-            ),
-            _ => write!(f, "{mark}"),
+        let Card { statement, mark } = self.card;
+        let (a, b, c) = (statement.first, statement.second, statement.third);
+        match Form::try_from(statement.form) {
+            Ok(Form::Is) => write!(f, "is {} {} {mark}", term(a), term(b)),
+            Ok(Form::Both) => write!(f, "both {} {} {} {mark}", term(a), term(b), term(c)),
+            Ok(Form::Has) => write!(f, "has {} {} {} {mark}", term(a), link(b), term(c)),
+            Ok(Form::From) => write!(f, "from {} {} {} {mark}", link(a), term(b), term(c)),
+            Ok(Form::Under) => write!(f, "under {} {} {mark}", link(a), link(b)),
+            Ok(Form::Chain) => write!(f, "chain {} {} {} {mark}", link(a), link(b), link(c)),
+            Err(_) => write!(f, "{mark}"),
         }
     }
 }
 
 // The answer to a question, as `wet risky 400`: the best mark of the first term in the second.
-#[derive(Clone, Copy)]
+#[derive(Clone, Copy, Debug)]
 pub struct Answer {
     pub first: u16,
     pub second: u16,
@@ -67,7 +43,7 @@ impl fmt::Display for Answer {
     ghost output = { λ answer. Some (answer_line answer.first answer.second answer.mark) };
 
     fn fmt<W: fmt::Write>(&self, f: &mut fmt::Formatter<W>) -> fmt::Result {
-        let mark = self.mark.value();
+        let mark = self.mark;
         write!(f, "{} {} {mark}", term(self.first), term(self.second))
     }
 }

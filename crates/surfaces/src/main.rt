@@ -7,11 +7,7 @@ mod names;
 mod scenes;
 
 fn main(rt: HostRuntime) -> anyhow::Result<()> {
-    scenes::route(&rt)?;
-    scenes::two_premises(&rt)?;
-    scenes::link_route(&rt)?;
-    scenes::link_under_link(&rt)?;
-    scenes::chained_link(&rt)?;
-    scenes::impossible_term(&rt)?;
-    scenes::refused_cards(&rt)
+    scenes::terms(&rt)?;
+    scenes::links(&rt)?;
+    scenes::edge_cases(&rt)
 }

@@ -1,7 +1,8 @@
 // The surfaces and links of the program, and their names.
-ghost use Rattle.std.specs.Prelude.{◌≡◌};
-ghost use Rattle.surfaces.specs.Names.{terms, links, name};
+ghost use Rattle.std.specs.Prelude.{◌≡◌, map};
+ghost use Rattle.surfaces.specs.Names.{terms, links, name as name_in};
 
+// A card has its terms and links as plain numbers, so these are numbers: each use would turn an enum into one.
 pub const WET: u16 = 2;
 
 pub const SLICK: u16 = 3;
@@ -22,32 +23,31 @@ pub const OVER: u16 = 0;
 
 pub const NEAR: u16 = 1;
 
+// The names of the terms, in the order of their numbers.
+const TERMS: [&str; 10] = [
+    "any", "none", "wet", "slick", "risky", "ice", "smooth", "floor", "moss", "cold",
+];
+
+// The names of the links, in the order of their numbers.
+const LINKS: [&str; 2] = ["over", "near"];
+
+// The name that stands at a number's place.
+fn name(names: &[&'static str], number: u16) -> &'static str
+    ensures { result.now ≡ name_in (map (λ name. name.now) names.now) number }
+{
+    names.get(usize::from(number)).copied().unwrap_or("unnamed")
+}
+
 // The name of a term.
 pub fn term(number: u16) -> &'static str
-    ensures { result.now ≡ name terms number }
+    ensures { result.now ≡ name_in terms number }
 {
-    match number {
-        0 => "any",
-        1 => "none",
-        2 => "wet",
-        3 => "slick",
-        4 => "risky",
-        5 => "ice",
-        6 => "smooth",
-        7 => "floor",
-        8 => "moss",
-        9 => "cold",
-        _ => "unnamed",
-    }
+    name(&TERMS, number)
 }
 
 // The name of a link.
 pub fn link(number: u16) -> &'static str
-    ensures { result.now ≡ name links number }
+    ensures { result.now ≡ name_in links number }
 {
-    match number {
-        0 => "over",
-        1 => "near",
-        _ => "unnamed",
-    }
+    name(&LINKS, number)
 }

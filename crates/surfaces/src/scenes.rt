@@ -6,18 +6,24 @@ use catalogue::{Classified, Draft, Refusal};
 use logic::{ANY, Card, NONE};
 use scale::{PerMille, Scale};
 
-fn mark(number: u16) -> anyhow::Result<PerMille> {
-    Ok(PerMille::new(number).context("no per-mille mark is above 1000")?)
+// A card whose mark is a plain number, as a card of the per-mille scale. The cases make theirs alike, in a crate on
+// which no program stands.
+fn graded(card: &Card<u16>) -> anyhow::Result<Card<PerMille>> {
+    let mark = PerMille::new(card.mark).context("no per-mille mark is above 1000")?;
+    Ok(Card {
+        statement: card.statement,
+        mark,
+    })
 }
 
-fn refused(rt: &HostRuntime, refusal: Refusal) -> anyhow::Result<()> {
-    println!(rt; "  refused {}", refusal.number())?;
+fn refused(rt: &impl Print, refusal: Refusal) -> anyhow::Result<()> {
+    println!(rt; "  {refusal}")?;
     Ok(())
 }
 
 // Files a card, and prints its line, with the number of the refusal if it is refused.
 fn file(
-    rt: &HostRuntime,
+    rt: &impl Print,
     draft: &mut Draft,
     table: &mut [Card<PerMille>],
     card: Card<PerMille>,
@@ -25,24 +31,24 @@ fn file(
     let line = CardLine { card };
     match draft.file(table, card) {
         Ok(()) => println!(rt; "  {line}")?,
-        Err(refusal) => println!(rt; "  {line}  (refused {})", refusal.number())?,
+        Err(refusal) => println!(rt; "  {line}  ({refusal})")?,
     }
     Ok(())
 }
 
 // Asks the best mark of each pair, and prints the answers.
 fn answer(
-    rt: &HostRuntime,
+    rt: &impl Print,
     classified: &Classified,
     pairs: &[PerMille],
     asks: &[(u16, u16)],
 ) -> anyhow::Result<()> {
-    for (first, second) in asks {
-        match classified.ask(pairs, *first, *second) {
+    for &(first, second) in asks {
+        match classified.ask(pairs, first, second) {
             Ok(mark) => {
                 let answer = Answer {
-                    first: *first,
-                    second: *second,
+                    first,
+                    second,
                     mark,
                 };
                 println!(rt; "  -> {answer}")?;
@@ -55,9 +61,9 @@ fn answer(
 
 // Builds a catalogue of ten terms and two links, files the cards, classifies and asks.
 fn show(
-    rt: &HostRuntime,
+    rt: &impl Print,
     title: &str,
-    cards: &[Card<PerMille>],
+    cards: &[Card<u16>],
     asks: &[(u16, u16)],
 ) -> anyhow::Result<()> {
     println!(rt; "{title}")?;
@@ -69,112 +75,85 @@ fn show(
         Err(refusal) => return refused(rt, refusal),
     };
     for card in cards {
-        file(rt, &mut draft, &mut table, *card)?;
+        file(rt, &mut draft, &mut table, graded(card)?)?;
     }
     match draft.classify(&table, &mut pairs, &mut links) {
         Ok(classified) => answer(rt, &classified, &pairs, asks),
-        Err(back) => {
-            let (_draft, refusal) = back;
-            refused(rt, refusal)
-        }
+        Err((_draft, refusal)) => refused(rt, refusal),
     }
 }
 
-pub(crate) fn route(rt: &HostRuntime) -> anyhow::Result<()> {
-    let cards = [
-        Card::is(WET, SLICK, mark(700)?),
-        Card::is(SLICK, RISKY, mark(400)?),
-    ];
-    let asks = [(WET, RISKY), (RISKY, WET)];
+// What follows from cards on terms alone.
+pub(crate) fn terms(rt: &impl Print) -> anyhow::Result<()> {
     show(
         rt,
         "A route is as strong as its lowest mark: it is not the product.",
-        &cards,
-        &asks,
-    )
-}
-
-pub(crate) fn two_premises(rt: &HostRuntime) -> anyhow::Result<()> {
-    let cards = [
-        Card::both(WET, SMOOTH, SLICK, mark(900)?),
-        Card::is(ICE, WET, mark(600)?),
-        Card::is(ICE, SMOOTH, mark(800)?),
-    ];
+        &[Card::is(WET, SLICK, 700), Card::is(SLICK, RISKY, 400)],
+        &[(WET, RISKY), (RISKY, WET)],
+    )?;
     show(
         rt,
         "What is wet and smooth is slick, and ice is both.",
-        &cards,
+        &[
+            Card::both(WET, SMOOTH, SLICK, 900),
+            Card::is(ICE, WET, 600),
+            Card::is(ICE, SMOOTH, 800),
+        ],
         &[(ICE, SLICK)],
     )
 }
 
-pub(crate) fn link_route(rt: &HostRuntime) -> anyhow::Result<()> {
-    let cards = [
-        Card::has(FLOOR, OVER, ICE, mark(800)?),
-        Card::is(ICE, WET, mark(700)?),
-        Card::from(OVER, WET, RISKY, mark(600)?),
-    ];
+// What follows from cards on links.
+pub(crate) fn links(rt: &impl Print) -> anyhow::Result<()> {
     show(
         rt,
         "A floor lies over ice, and what lies over something wet is risky.",
-        &cards,
+        &[
+            Card::has(FLOOR, OVER, ICE, 800),
+            Card::is(ICE, WET, 700),
+            Card::from(OVER, WET, RISKY, 600),
+        ],
         &[(FLOOR, RISKY)],
-    )
-}
-
-pub(crate) fn link_under_link(rt: &HostRuntime) -> anyhow::Result<()> {
-    let cards = [
-        Card::has(FLOOR, OVER, ICE, mark(800)?),
-        Card::under(OVER, NEAR, mark(500)?),
-        Card::from(NEAR, ICE, COLD, mark(900)?),
-    ];
+    )?;
     show(
         rt,
         "What lies over something is near it.",
-        &cards,
+        &[
+            Card::has(FLOOR, OVER, ICE, 800),
+            Card::under(OVER, NEAR, 500),
+            Card::from(NEAR, ICE, COLD, 900),
+        ],
         &[(FLOOR, COLD)],
-    )
-}
-
-pub(crate) fn chained_link(rt: &HostRuntime) -> anyhow::Result<()> {
-    let cards = [
-        Card::has(FLOOR, OVER, MOSS, mark(900)?),
-        Card::has(MOSS, OVER, ICE, mark(650)?),
-        Card::chain(OVER, OVER, OVER, mark(1000)?),
-        Card::from(OVER, ICE, COLD, mark(1000)?),
-    ];
+    )?;
     show(
         rt,
         "What lies over something lies over what is below that.",
-        &cards,
+        &[
+            Card::has(FLOOR, OVER, MOSS, 900),
+            Card::has(MOSS, OVER, ICE, 650),
+            Card::chain(OVER, OVER, OVER, 1000),
+            Card::from(OVER, ICE, COLD, 1000),
+        ],
         &[(FLOOR, COLD)],
     )
 }
 
-pub(crate) fn impossible_term(rt: &HostRuntime) -> anyhow::Result<()> {
-    let cards = [
-        Card::is(WET, NONE, mark(1)?),
-        Card::has(FLOOR, OVER, WET, mark(300)?),
-    ];
-    let asks = [(WET, SLICK), (FLOOR, COLD), (FLOOR, NONE), (SLICK, WET)];
+// A term that cannot exist, and cards that are refused.
+pub(crate) fn edge_cases(rt: &impl Print) -> anyhow::Result<()> {
     show(
         rt,
         "Nothing can be wet, so no floor over something wet can exist: it falls under everything.",
-        &cards,
-        &asks,
-    )
-}
-
-pub(crate) fn refused_cards(rt: &HostRuntime) -> anyhow::Result<()> {
-    let cards = [
-        Card::is(WET, SLICK, mark(700)?),
-        Card::is(WET, SLICK, mark(900)?),
-        Card::is(WET, RISKY, mark(0)?),
-    ];
+        &[Card::is(WET, NONE, 1), Card::has(FLOOR, OVER, WET, 300)],
+        &[(WET, SLICK), (FLOOR, COLD), (FLOOR, NONE), (SLICK, WET)],
+    )?;
     show(
         rt,
         "A statement stands once (6), and the lowest mark says nothing (5).",
-        &cards,
+        &[
+            Card::is(WET, SLICK, 700),
+            Card::is(WET, SLICK, 900),
+            Card::is(WET, RISKY, 0),
+        ],
         &[(WET, SLICK)],
     )
 }

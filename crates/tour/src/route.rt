@@ -21,8 +21,8 @@ impl<S: Written> Route<S> {
     }
 
     // Writes the line that tells the route's strength at the start of `out`, and answers its length; `None`, and `out`
-    // as it was, where the line does not fit.
-    // It is no `Display`: a bound `Display` says nothing of the bytes of a mark, as `Written` does, so it would promise less.
+    // as it was, where the line does not fit. It is no `Display`: a bound `Display` says nothing of the bytes of a
+    // mark, as `Written` does, so it would promise less.
     pub fn print(self, out: &mut [u8]) -> Option<usize>
         ensures { Printed (route_line S.Scale.order S.Written.bytes self) 0 out.old out.new result }
     {
