@@ -31,7 +31,8 @@ impl Numbers {
         })
     }
 
-    // Tests that the three tables have the lengths that the numbers say.
+    // Tests that the three tables have the lengths that the numbers say. It asks nothing else of the tables, so it
+    // takes their lengths.
     fn check_lengths(self, cards: usize, pairs: usize, links: usize) -> Result<(), Refusal>
         ensures { verdict_of result ≡ row 2 [] (not (lengths_fit self.size.n self.size.k self.capacity cards pairs links)) }
     {
@@ -138,6 +139,7 @@ impl Classified {
         Kind::Term.check(a, size, Place::First)?;
         Kind::Term.check(b, size, Place::Second)?;
         let (first, second) = (usize::from(a), usize::from(b));
+        // The cast keeps the constant for a proof to read, as `usize::from` would not.
         let impossible = pairs[size.pair_place(first, NONE as usize)];
         if impossible.at_most(S::lowest()) {
             Ok(pairs[size.pair_place(first, second)])

@@ -69,7 +69,7 @@ impl Refusal {
     }
 }
 
-// This is written by hand, since a derived text would have no contract.
+// This is by hand, since a derived text has no contract.
 impl fmt::Display for Refusal {
     ghost output = { λ refusal. Some (codes "refused " ++ decimal (number_in (refused refusal))) };
 

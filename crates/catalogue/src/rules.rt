@@ -19,7 +19,7 @@ pub(crate) enum Kind {
 }
 
 impl Kind {
-    // Whether a number is in range for its kind.
+    // Whether a number is in range for its kind. It is a question of the subject's, so it answers a `bool`.
     fn admits(self, number: u16, size: Size) -> bool
         ensures { result ≡ admits_number size.n size.k self number }
     {
@@ -130,7 +130,7 @@ pub(crate) fn check_cards<S: Scale>(cards: &[Card<S>], size: Size) -> Result<(),
     Ok(())
 }
 
-// Whether one of the standing cards has the statement.
+// Whether one of the standing cards has the statement. It is a question of the subject's, so it answers a `bool`.
 fn stands<S: Scale>(standing: &[Card<S>], statement: Statement) -> bool
     ensures { result ≡ stands_in statement standing.now }
 {

@@ -11,9 +11,10 @@ use logic::{ANY, Card, Form, NONE, Statement};
 use scale::{Scale, lower};
 
 // No type of a number alone says that it is below n or k of the tables, so each contract does; a struct of the tables
-// and the numbers would be made anew at each turn of a loop, to say the same in its ghost field. Nor does a type say
-// that a call leaves the tables the same two, so three contracts do. Each loop gathers by `|=` whether a cell rose: a
-// `fold` was tried in place of one, and in its closure it stays open that the number is in range.
+// and the numbers, as x, r and y, would be made anew at each turn of a loop, to say the same in its ghost field. Nor
+// does a type say that a call leaves the tables the same two, or that it raised cells by no card, so three contracts
+// each do. The loops go over terms and links by `for`: a `fold` was tried in place of one, and in its closure it stays
+// open that the number is in range.
 impl<S: Scale> Tables<'_, S> {
     ghost use Rattle.catalogue.specs.Climbing.{Stays, held, Raises, Turns, Applies, Started, ChainMet, AllAsked, WidenMet, SpreadMet, AllSpreadMet, Settled};
 

@@ -30,6 +30,7 @@ pub(crate) struct Tables<'a, S> {
     ghost links_fit: { length links.now ≡ size.k * size.n * size.n },
 }
 
+// That a cell is one of these tables' is asked by each method: a cell alone does not know their size.
 impl<S: Scale> Tables<'_, S> {
     ghost use Rattle.catalogue.specs.Climbing.{named, held, Raised};
 

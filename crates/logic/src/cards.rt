@@ -30,6 +30,7 @@ pub enum Form {
 #[derive(Clone, Copy, Debug, PartialEq, Eq, Hash)]
 pub struct UnknownForm(pub u8);
 
+// This is by hand, since a derived text has no contract.
 impl fmt::Display for UnknownForm {
     ghost output = { λ error. Some (codes "no form has the number " ++ decimal error.0) };
 
@@ -104,6 +105,7 @@ impl<M> Card<M> {
         self.statement
     }
 
+    // Here alone a form, three numbers and a mark are five parameters: they become the record.
     fn of(form: Form, first: u16, second: u16, third: u16, mark: M) -> Card<M>
         ensures { result ≡ card_with (form_number form) first second third mark }
     {

@@ -20,7 +20,8 @@ pub enum Digit {
     Nine,
 }
 
-/// The error of a conversion to a digit, with the number that was to be converted.
+/// The error of a conversion to a digit, with the number that was to be converted. A caller meets no other error of
+/// that conversion, so it is a type of its own.
 #[derive(Clone, Copy, Debug, PartialEq, Eq, Hash)]
 pub struct NotADigit(pub u16);
 
@@ -54,6 +55,7 @@ impl From<Digit> for u16 {
     }
 }
 
+// This is by hand, since a derived text has no contract.
 impl fmt::Display for NotADigit {
     ghost output = { λ error. Some (decimal error.0 ++ codes " is not a digit") };
 

@@ -90,6 +90,7 @@ impl Written for PerMille {
     }
 }
 
+// This is by hand, since a derived text has no contract.
 impl fmt::Display for PerMille {
     ghost output = { λ mark. Some (mille_bytes mark) };
 

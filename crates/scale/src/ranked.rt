@@ -43,6 +43,7 @@ impl Written for Pair<Grade, PerMille> {
     }
 }
 
+// This is by hand, since a derived text has no contract.
 impl fmt::Display for Pair<Grade, PerMille> {
     ghost output = { λ mark. Some (ranked_bytes mark) };
 

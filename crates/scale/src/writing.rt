@@ -58,7 +58,7 @@ pub fn put(text: &[u8], out: &mut [u8], at: usize) -> Option<usize>
     Some(end)
 }
 
-/// Prints a mark and reads it back: the same mark, wherever its form fits.
+/// Prints a mark, as `Written::print` does, and reads it back: the same mark, wherever its form fits.
 pub fn read_back<S: Written>(mark: S, out: &mut [u8], at: usize) -> Option<S>
     ensures back { MatchOption result (length out.old < at + length (S.Written.bytes mark)) (λ m. m ≡ mark) }
     ensures printed { Printed (S.Written.bytes mark) at out.old out.new (option_map (λ _. at + length (S.Written.bytes mark)) result) }

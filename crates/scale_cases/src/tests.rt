@@ -65,6 +65,10 @@ static NO_RANKS: [&[u8]; 13] = [
     b"100/strong",
 ];
 
+fn mark(number: u16) -> Result<PerMille, Fail> {
+    Ok(PerMille::new(number).ok_or("a number up to 1000")?)
+}
+
 // The mark is printed as the word, into that place alone, and the word is read as the mark.
 fn both_ways<S: Written + Debug + PartialEq>(
     rt: &impl Abort,
@@ -87,7 +91,7 @@ fn both_ways<S: Written + Debug + PartialEq>(
 #[test]
 fn per_mille_both_ways(rt: HostRuntime) -> Result<(), Fail> {
     for &(value, word) in &NUMBERS {
-        let mark = PerMille::new(value).ok_or("a number up to 1000")?;
+        let mark = mark(value)?;
         assert_eq!(rt; mark.value(), value);
         both_ways(&rt, mark, word)?;
     }
@@ -112,10 +116,10 @@ fn every_ranked_mark_is_read_back(rt: HostRuntime) -> Result<(), Fail> {
 #[test]
 fn numbers_rise(rt: HostRuntime) -> Result<(), Fail> {
     for (i, &(a, _)) in NUMBERS.iter().enumerate() {
-        let a = PerMille::new(a).ok_or("a number up to 1000")?;
+        let a = mark(a)?;
         assert!(rt; PerMille::lowest().at_most(a) && a.at_most(PerMille::highest()));
         for (j, &(b, _)) in NUMBERS.iter().enumerate() {
-            let b = PerMille::new(b).ok_or("a number up to 1000")?;
+            let b = mark(b)?;
             assert_eq!(rt; a.at_most(b), i <= j);
         }
     }
@@ -132,7 +136,7 @@ fn grades_both_ways(rt: HostRuntime) -> Result<(), Fail> {
 }
 
 fn ranked(first: Grade, second: u16) -> Result<Ranked, Fail> {
-    let second = PerMille::new(second).ok_or("a number up to 1000")?;
+    let second = mark(second)?;
     Ok(Pair { first, second })
 }
 

@@ -13,6 +13,7 @@ pub struct CardLine {
     pub card: Card<PerMille>,
 }
 
+// This is by hand, since a derived text has no contract.
 impl fmt::Display for CardLine {
     ghost output = { λ line. Some (card_line line.card) };
 
@@ -39,6 +40,7 @@ pub struct Answer {
     pub mark: PerMille,
 }
 
+// This is by hand, since a derived text has no contract.
 impl fmt::Display for Answer {
     ghost output = { λ answer. Some (answer_line answer.first answer.second answer.mark) };
 
