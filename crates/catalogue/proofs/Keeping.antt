@@ -1,4 +1,4 @@
--- What it is for a card to keep the rules, in words. Assumes nothing.
+-- What it is for a card to keep the rules, in words; cards that keep them are in range. Assumes nothing.
 use Rattle.std.proofs.Common.{◌≡◌, ℕ, zero, suc, Bool, true, false, not, eqb, ltb, List, [], ◌∷◌, sym, refl, ap, ◌∙◌, subst, inl, inr}
 use mathlib.Core.List.Memᴰ
 use Rattle.std.proofs.lemmas.Bool.{ltb-true, lt-ltb, eqb-true}

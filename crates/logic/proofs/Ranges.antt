@@ -1,4 +1,4 @@
--- Derivations stay among the terms and links that there are. Assumes nothing.
+-- Derivations stay among the terms and links that there are, and being in range is a proposition. Assumes nothing.
 use Rattle.std.proofs.Common.{ℕ, ◌<◌, List, arith}
 use Rattle.scale.specs.Order.{Chain}
 use Rattle.std.proofs.Math.Bridge.{le_prop}

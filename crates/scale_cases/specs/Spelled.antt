@@ -47,7 +47,7 @@ module _ (h t o : Digit) where
       let eo : thousandths (Digits h t o) % 10 ≡ digit o = omega arith in
       decimal_three (thousandths (Digits h t o)) lo (omega arith) ∙ λ i. (48 + eh i) ∷ (48 + et i) ∷ (48 + eo i) ∷ []
 
--- bytes that an array of at least as many begins with have the length up to which it does
+-- where bytes are the first `len` of an array that is as long, they are `len` many
 pub form_of : (bytes array : List ℕ) (len : ℕ) → bytes ≡ take len array → len ≤ length array → (take len array ≡ bytes) × (len ≡ length bytes)
 form_of bytes array len e fits = (sym e, sym (ap length e ∙ length-take-le len array fits))
 
