@@ -1,10 +1,11 @@
 -- The rules that a card has to keep: its form, its numbers, its mark. Assumes nothing.
-use Rattle.std.specs.Prelude.{◌≡◌, ℕ, zero, suc, Bool, false, not, List, [], ◌∷◌, Some, None, Ok, Err, Option, Result, ◌==◌, nat_lt}
+use Rattle.std.specs.Prelude.{◌≡◌, ℕ, zero, suc, Bool, false, not, List, [], ◌∷◌, ◌++◌, length, Some, None, Ok, Err, Option, Result, ◌==◌, nat_lt}
+use mathlib.Core.List.{Memᴰ}
 use Rattle.scale.specs.Order.{Chain}
 use Rattle.logic.specs.declared.cards.Card.{Card}
 use Rattle.logic.specs.declared.cards.Statement.{Statement}
-use Rattle.logic.specs.Axioms.{Axiom, InRange, mark_of}
-use Rattle.logic.specs.Records.{card_of}
+use Rattle.logic.specs.Axioms.{Axiom, In, InRange, mark_of}
+use Rattle.logic.specs.Records.{card_of, axioms}
 use Rattle.logic.specs.Statements.{statement_of, stands}
 use Rattle.catalogue.specs.declared.rules.Kind.{Kind}
 use Rattle.catalogue.specs.declared.rules.Kind.TheVariants.{Term, Link, Unused}
@@ -78,6 +79,33 @@ at_place place (refuse number values) = refuse 9 (place ∷ number ∷ [])
 abbrev pub cards_verdict : {M : Type 0} → Chain M → (n k : ℕ) → (place : ℕ) → List (Card M) → Verdict
 cards_verdict C n k place [] = fine
 cards_verdict C n k place (card ∷ cards) = at_place place (card_verdict C n k card) then cards_verdict C n k (suc place) cards
+
+-- the first card of a list that breaks a rule: where it stands and the refusal that it alone would get; the cards before it keep the rules
+pub record FirstBroken {M : Type 0} (C : Chain M) (n k : ℕ) (cards : List (Card M)) (place number : ℕ) : Type 0 where
+  pub before : List (Card M)
+  pub card : Card M
+  pub after : List (Card M)
+  pub parts : cards ≡ before ++ (card ∷ after)
+  pub stands_at : length before ≡ place
+  pub kept : (other : Card M) → Memᴰ other before → card_verdict C n k other ≡ fine
+  pub values : List ℕ
+  pub broken : card_verdict C n k card ≡ refuse number values
+
+-- the verdict on a list of cards in words: fine exactly where each card keeps the rules, and 9 with a place and a number exactly where the first card that breaks a rule stands there and would be refused so
+pub record FirstBrokenInWords {M : Type 0} (C : Chain M) (n k : ℕ) (cards : List (Card M)) : Type 0 where
+  pub all_keep : cards_verdict C n k 0 cards ≡ fine → (card : Card M) → Memᴰ card cards → card_verdict C n k card ≡ fine
+  pub fine_then : ((card : Card M) → Memᴰ card cards → card_verdict C n k card ≡ fine) → cards_verdict C n k 0 cards ≡ fine
+  pub one_broken : (place number : ℕ) → cards_verdict C n k 0 cards ≡ refuse 9 (place ∷ number ∷ []) → FirstBroken C n k cards place number
+  pub refused_then : (place number : ℕ) → FirstBroken C n k cards place number → cards_verdict C n k 0 cards ≡ refuse 9 (place ∷ number ∷ [])
+
+unfoldable pub BrokenInWords : {M : Type 0} → Chain M → Type 0
+BrokenInWords {M} C = (n k : ℕ) (cards : List (Card M)) → FirstBrokenInWords C n k cards
+
+-- what cards say, in words: of cards that keep the rules, an axiom is among what they say exactly where its record is among them
+unfoldable pub SaidInWords : {M : Type 0} → Chain M → Type 0
+SaidInWords {M} C =
+    (n k : ℕ) (cards : List (Card M)) → cards_verdict C n k 0 cards ≡ fine → (a : Axiom M)
+    → (In a (axioms cards) → Memᴰ (card_of a) cards) × (Memᴰ (card_of a) cards → In a (axioms cards))
 
 -- 6 where the statement stands already, 7 where as many cards stand, f, as the table has places, c
 abbrev pub room_verdict : {M : Type 0} → (f c : ℕ) → (standing : List (Card M)) → Statement → Verdict

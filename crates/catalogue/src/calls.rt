@@ -4,7 +4,7 @@ ghost use Rattle.logic.specs.Axioms.{AllInRange};
 ghost use Rattle.logic.specs.Records.{axioms};
 ghost use Rattle.logic.specs.Statements.{StandsInWords};
 ghost use Rattle.catalogue.specs.Refusals.{verdict_of, row};
-ghost use Rattle.catalogue.specs.Rules.{KeptInWords};
+ghost use Rattle.catalogue.specs.Rules.{KeptInWords, BrokenInWords, SaidInWords};
 ghost use Rattle.catalogue.specs.Calls.{numbers, of_numbers, of_draft, of_classified, within_limits, lengths_fit, classify_verdict, Built, Filed, Classifies, Asked};
 
 use super::refusals::{Place, Refusal};
@@ -104,13 +104,16 @@ impl Draft {
 
     /// Fills both cell tables with the closure of the standing cards, and turns the draft into a classified catalogue.
     /// A refusal hands the draft back.
+    #[tactic(auto, using(crate::proofs::Keeping::broken_in_words, crate::proofs::Keeping::said_in_words))]
     pub fn classify<S: Scale>(
         self,
         cards: &[Card<S>],
         pairs: &mut [S],
         links: &mut [S],
     ) -> Result<Classified, (Draft, Refusal)>
-        ensures { Classifies S.Scale.order (of_draft self) cards.now pairs.old links.old result pairs.new links.new }
+        ensures classified { Classifies S.Scale.order (of_draft self) cards.now pairs.old links.old result pairs.new links.new }
+        ensures broken { BrokenInWords S.Scale.order }
+        ensures said { SaidInWords S.Scale.order }
     {
         let numbers = self.numbers;
         let cards = numbers

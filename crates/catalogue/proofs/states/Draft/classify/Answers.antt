@@ -15,7 +15,7 @@ saturated C old new standing cards pairs links stays e p l s =
     subst (λ cards. Saturated C old.size.n old.size.k (axioms cards) (cells C old.size.n pairs links)) e
     (subst (λ t. Saturated C old.size.n old.size.k (axioms standing) t) (λ i. cells C (stays.size i).n (p i) (l i)) s)
 
-pub returns : goal.returns
-returns g c =
+pub returns-clause-classified : goal.returns-clause-classified
+returns-clause-classified g c =
     let standing : c.in_ok-cards.cards.now ≡ take c.args.self.numbers.standing c.args.cards.now = search rules in
     (search rules, refl, saturated g.S.Scale.order _ c.saturate.new.self _ _ _ _ c.saturate.ensures.stays standing (search rules) (search rules) c.saturate.ensures.saturated)
