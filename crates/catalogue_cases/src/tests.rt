@@ -228,7 +228,7 @@ fn mark(number: u16) -> Result<PerMille, Fail> {
     Ok(PerMille::new(number).ok_or("a number up to 1000")?)
 }
 
-// The program over surfaces makes its cards alike. Neither crate stands on the other.
+// The tour makes its cards alike. Neither crate stands on the other.
 fn card(record: Record) -> Result<Card<PerMille>, Fail> {
     let (form, first, second, third, number) = record;
     let mark = mark(number)?;

@@ -1,1 +1,3 @@
 pub mod Routes
+pub mod Names
+pub mod Lines

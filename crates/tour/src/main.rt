@@ -1,7 +1,11 @@
-//! A tour of the scales: on each of them, the strength of a short route of surfaces.
+//! A tour of the library: on each scale, the strength of a short route of surfaces; then small catalogues of surfaces,
+//! each of which is built, filled with cards, classified and asked, and prints its cards and its answers.
 #![tactic(auto)]
 
+mod lines;
+mod names;
 mod route;
+mod scenes;
 
 use anyhow::Context;
 use route::Route;
@@ -18,7 +22,7 @@ fn tell<S: Written>(
 ) -> anyhow::Result<()> {
     let first = S::read(first).context("the first step has no mark of the scale")?;
     let second = S::read(second).context("the second step has no mark of the scale")?;
-    // `Route::print` writes into a buffer that is lent, which is what this program shows.
+    // `Route::print` writes into a buffer that is lent, which is what this part of the program shows.
     let mut line = [0u8; 96];
     let end = Route { first, second }
         .print(&mut line)
@@ -28,9 +32,17 @@ fn tell<S: Written>(
     Ok(())
 }
 
-fn main(rt: HostRuntime) -> anyhow::Result<()> {
+// A route on each scale.
+fn routes(rt: &impl Print) -> anyhow::Result<()> {
     println!(rt; "The strength of a route is the lower of its marks.")?;
-    tell::<PerMille>(&rt, "per-mille", b"700", b"400")?;
-    tell::<Grade>(&rt, "grade", b"strong", b"trace")?;
-    tell::<Ranked>(&rt, "ranked", b"strong/100", b"partial/900")
+    tell::<PerMille>(rt, "per-mille", b"700", b"400")?;
+    tell::<Grade>(rt, "grade", b"strong", b"trace")?;
+    tell::<Ranked>(rt, "ranked", b"strong/100", b"partial/900")
+}
+
+fn main(rt: HostRuntime) -> anyhow::Result<()> {
+    routes(&rt)?;
+    scenes::terms(&rt)?;
+    scenes::links(&rt)?;
+    scenes::edge_cases(&rt)
 }

@@ -3,7 +3,7 @@ use Rattle.std.specs.Prelude.{ℕ, zero, suc, List, [], ◌∷◌, ◌++◌, cod
 use Rattle.scale.specs.Thousandths.{mille_bytes}
 use Rattle.scale.specs.declared.per_mille.PerMille.{PerMille}
 use Rattle.logic.specs.declared.cards.Card.{Card}
-use Rattle.surfaces.specs.Names.{terms, links, name}
+use Rattle.tour.specs.Names.{terms, links, name}
 
 -- words and a last one, with a space between each two
 abbrev pub line : List (List ℕ) → List ℕ → List ℕ

@@ -1,6 +1,6 @@
 // The surfaces and links of the program, and their names.
 ghost use Rattle.std.specs.Prelude.{◌≡◌, map};
-ghost use Rattle.surfaces.specs.Names.{terms, links, name as name_in};
+ghost use Rattle.tour.specs.Names.{terms, links, name as name_in};
 
 // A card has its terms and links as plain numbers, so these are numbers: each use would turn an enum into one.
 pub const WET: u16 = 2;

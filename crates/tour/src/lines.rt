@@ -1,6 +1,6 @@
 // The lines of cards and of answers.
 ghost use Rattle.std.specs.Prelude.{Some};
-ghost use Rattle.surfaces.specs.Lines.{card_line, answer_line};
+ghost use Rattle.tour.specs.Lines.{card_line, answer_line};
 
 use super::names::{link, term};
 use logic::{Card, Form};
