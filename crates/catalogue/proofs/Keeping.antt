@@ -8,7 +8,7 @@ use Rattle.logic.specs.declared.cards.Card.{Card}
 use Rattle.logic.specs.Axioms.{Axiom, is, both, has, from, under, chain, InRange, AllInRange, In, mark_of}
 use Rattle.logic.specs.Records.{card_of, card_with, says, axioms}
 use Rattle.catalogue.specs.Refusals.{Verdict, fine, refuse, row, ◌then◌}
-use Rattle.catalogue.specs.Rules.{card_verdict, cards_verdict, at_place, KeptInWords, FirstBroken, FirstBrokenInWords, BrokenInWords, SaidInWords}
+use Rattle.catalogue.specs.Rules.{card_verdict, cards_verdict, at_place, KeptInWords, BrokenInWords, SaidInWords}
 
 -- the tests of a card, whose three numbers and whose mark pass or not
 abbrev tests : (first second third lowest : Bool) → Verdict

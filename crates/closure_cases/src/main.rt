@@ -1,0 +1,110 @@
+//! Closures of many small catalogues, to be compared with what another program says they are.
+//!
+//! Each line of the input is a catalogue: the number of its terms and of its links, and then five numbers for each card,
+//! which are its form, its three numbers and its per-mille mark. Of each the program prints the refusal of each card
+//! that is refused, the cells of both tables, and the best mark of every pair.
+#![tactic(auto)]
+
+use anyhow::{Context, bail};
+use catalogue::{Classified, Draft};
+use logic::{ANY, Card, Statement};
+use scale::{PerMille, Scale};
+use std::alloc::Global;
+
+// The length of every catalogue's card table.
+const CAPACITY: usize = 12;
+
+fn numbers(alloc: Global, line: &str) -> anyhow::Result<Vec<u16>> {
+    let mut numbers = Vec::new(alloc);
+    for word in line.split_whitespace() {
+        numbers.push(word.parse::<u16>()?)?;
+    }
+    Ok(numbers)
+}
+
+fn card(record: &[u16]) -> anyhow::Result<Card<PerMille>> {
+    let [form, first, second, third, number] = *record else {
+        bail!("a card has five numbers");
+    };
+    let statement = Statement {
+        form: u8::try_from(form)?,
+        first,
+        second,
+        third,
+    };
+    let mark = PerMille::new(number).context("no per-mille mark is above 1000")?;
+    Ok(Card { statement, mark })
+}
+
+// Files the cards, and prints which of them is refused, from 0, and with what.
+fn file(
+    rt: &impl Print,
+    draft: &mut Draft,
+    table: &mut [Card<PerMille>],
+    records: &[u16],
+) -> anyhow::Result<()> {
+    for (place, record) in records.chunks(5).enumerate() {
+        if let Err(refusal) = draft.file(table, card(record)?) {
+            println!(rt; "card {place} {refusal}")?;
+        }
+    }
+    Ok(())
+}
+
+fn row(rt: &impl Print, name: &str, marks: &[PerMille]) -> anyhow::Result<()> {
+    print!(rt; "{name}")?;
+    for mark in marks {
+        print!(rt; " {mark}")?;
+    }
+    println!(rt)?;
+    Ok(())
+}
+
+// Asks the best mark of every pair.
+fn best(
+    rt: &impl Print,
+    classified: &Classified,
+    pairs: &[PerMille],
+    n: u16,
+) -> anyhow::Result<()> {
+    print!(rt; "best")?;
+    for a in 0..n {
+        for b in 0..n {
+            let mark = classified.ask(pairs, a, b)?;
+            print!(rt; " {mark}")?;
+        }
+    }
+    println!(rt)?;
+    Ok(())
+}
+
+fn show(rt: &impl Print, alloc: Global, numbers: &[u16]) -> anyhow::Result<()> {
+    let [n, k, records @ ..] = numbers else {
+        bail!("a catalogue has a number of terms and one of links");
+    };
+    let (terms, links) = (usize::from(*n), usize::from(*k));
+    let cells = terms * terms;
+    let mut table = [Card::is(ANY, ANY, PerMille::lowest()); CAPACITY];
+    let mut pairs = vec![in alloc; PerMille::lowest(); cells]?;
+    let mut roles = vec![in alloc; PerMille::lowest(); links * cells]?;
+    println!(rt; "terms {n} links {k}")?;
+    let mut draft = Draft::build(terms, links, CAPACITY, &table, &pairs, &roles)?;
+    file(rt, &mut draft, &mut table, records)?;
+    match draft.classify(&table, &mut pairs, &mut roles) {
+        Ok(classified) => {
+            row(rt, "pairs", &pairs)?;
+            row(rt, "links", &roles)?;
+            best(rt, &classified, &pairs, *n)
+        }
+        Err((_draft, refusal)) => Err(refusal.into()),
+    }
+}
+
+fn main(rt: HostRuntime) -> anyhow::Result<()> {
+    for line in rt.lines(rt.alloc()) {
+        let line = line?;
+        let numbers = numbers(rt.alloc(), &line)?;
+        show(&rt, rt.alloc(), &numbers)?;
+    }
+    Ok(())
+}

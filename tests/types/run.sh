@@ -1,0 +1,48 @@
+#!/bin/sh
+# States that must not be mixed: the compiler refuses each line of the programs beside this script that ends with
+# `//~ ERROR`, by that error, and no other line. It accepts accepted.program, which prints `strong`.
+# The programs stand beside the crates, in a folder of their own, and are compiled without a proof.
+set -eu
+here=$(cd "$(dirname "$0")" && pwd)
+top=$(cd "$here/../.." && pwd)
+
+work=$(mktemp -d)
+trap 'rm -rf "$work"' EXIT
+for crate in scale logic catalogue; do
+    mkdir -p "$work/crates/$crate"
+    for part in src specs proofs; do
+        cp -R "$top/crates/$crate/$part" "$work/crates/$crate/$part"
+    done
+done
+mkdir -p "$work/crates/program/src"
+grep -E '^(scale|logic|catalogue):' "$top/crates.txt" >"$work/crates.txt"
+echo 'program: scale logic catalogue anyhow' >>"$work/crates.txt"
+
+# Compiles a program, and leaves what the compiler said in $work/said.
+compile() {
+    cp "$here/$1" "$work/crates/program/src/main.rt"
+    (cd "$work/crates/program" && rt try) >"$work/said" 2>&1
+}
+
+if ! compile accepted.program || ! grep -qx strong "$work/said"; then
+    echo "types: accepted.program is not accepted"
+    cat "$work/said"
+    exit 1
+fi
+
+# A line with its error, as `9 unknown-method`; a line that gets one error twice counts once.
+for program in states copied moved; do
+    grep -n '//~' "$here/$program.program" | sed -E 's|^([0-9]+):.*//~ ([a-z0-9-]+)$|\1 \2|' | sort -u >"$work/wanted"
+    if compile "$program.program"; then
+        echo "types: $program.program is accepted"
+        exit 1
+    fi
+    sed -nE 's|^src/main.rt:([0-9]+):[0-9]+: error\[([a-z0-9-]+)\].*|\1 \2|p' "$work/said" | sort -u >"$work/found"
+    if ! [ -s "$work/wanted" ] || ! cmp -s "$work/wanted" "$work/found"; then
+        echo "types: $program.program is refused otherwise than its lines say"
+        diff "$work/wanted" "$work/found" || true
+        cat "$work/said"
+        exit 1
+    fi
+    echo "types: $program.program: $(wc -l <"$work/wanted") lines refused, as they say"
+done
