@@ -14,7 +14,6 @@ import sys
 
 ANY, NONE = 0, 1
 HIGHEST = 1000
-CAPACITY = 12
 CATALOGUES = 200
 
 # What the three numbers of a form are: a term, a link, or unused.
@@ -59,10 +58,10 @@ def catalogue(rng):
         elif slip in (5, 6) and cards:
             form, *numbers, _ = cards[rng.below(len(cards))]
         cards.append((form, *numbers, mark))
-    return n, k, cards
+    return n, k, 8 + rng.below(8), cards
 
 
-def refusal(n, k, standing, card):
+def refusal(n, k, c, standing, card):
     """The number of the refusal that filing the card meets, or None."""
     form, *numbers, mark = card
     if form not in KINDS:
@@ -74,7 +73,7 @@ def refusal(n, k, standing, card):
         return 5
     if any(other[:4] == card[:4] for other in standing):
         return 6
-    if len(standing) == CAPACITY:
+    if len(standing) == c:
         return 7
     return None
 
@@ -118,11 +117,11 @@ def closure(n, k, cards):
     return pairs, links
 
 
-def answers(n, k, cards):
-    yield f"terms {n} links {k}"
+def answers(n, k, c, cards):
+    yield f"terms {n} links {k} cards {c}"
     standing = []
     for place, card in enumerate(cards):
-        number = refusal(n, k, standing, card)
+        number = refusal(n, k, c, standing, card)
         if number is None:
             standing.append(card)
         else:
@@ -139,11 +138,11 @@ def answers(n, k, cards):
 def main():
     rng = Numbers(2026)
     for _ in range(CATALOGUES):
-        n, k, cards = catalogue(rng)
+        n, k, c, cards = catalogue(rng)
         if sys.argv[1:] == ["stdin"]:
-            print(n, k, *(number for card in cards for number in card))
+            print(n, k, c, *(number for card in cards for number in card))
         elif sys.argv[1:] == ["stdout"]:
-            print(*answers(n, k, cards), sep="\n")
+            print(*answers(n, k, c, cards), sep="\n")
         else:
             sys.exit(__doc__)
 

@@ -10,7 +10,7 @@ use Rattle.catalogue.specs.Cells.{pair_cell, cells}
 use Rattle.catalogue.specs.Refusals.{Verdict, fine, refused, row, ◌then◌}
 use Rattle.catalogue.specs.Rules.{card_verdict, cards_verdict, room_verdict}
 use Rattle.catalogue.specs.declared.refusals.Refusal.{Refusal}
-use Rattle.catalogue.specs.declared.states.Numbers.{Numbers as Kept}
+use Rattle.catalogue.specs.declared.states.Numbers.{Numbers as Stored}
 use Rattle.catalogue.specs.declared.states.Draft.{Draft}
 use Rattle.catalogue.specs.declared.states.Classified.{Classified}
 
@@ -24,7 +24,7 @@ pub record Numbers : Type 0 where
 abbrev pub numbers : (n k c f : ℕ) → Numbers
 numbers n k c f = record { n = n; k = k; c = c; f = f }
 
-abbrev pub of_numbers : Kept → Numbers
+abbrev pub of_numbers : Stored → Numbers
 of_numbers w = numbers w.size.n w.size.k w.capacity w.standing
 
 abbrev pub of_draft : Draft → Numbers

@@ -1,7 +1,7 @@
 -- The rules that a card has to keep: its form, its numbers, its mark. Assumes nothing.
-use Rattle.std.specs.Prelude.{◌≡◌, ℕ, zero, suc, Bool, false, not, List, [], ◌∷◌, ◌++◌, length, Some, None, Ok, Err, Option, Result, ◌==◌, nat_lt}
+use Rattle.std.specs.Prelude.{◌≡◌, ℕ, zero, suc, ◌+◌, ◌<◌, Bool, true, false, not, ◌⊎◌, ◌↔◌, List, [], ◌∷◌, ◌++◌, length, Some, None, Ok, Err, Option, Result, ◌==◌, nat_lt}
 use mathlib.Core.List.{Memᴰ}
-use Rattle.scale.specs.Order.{Chain}
+use Rattle.scale.specs.Order.{Chain, AtMost}
 use Rattle.logic.specs.declared.cards.Card.{Card}
 use Rattle.logic.specs.declared.cards.Statement.{Statement}
 use Rattle.logic.specs.Axioms.{Axiom, In, InRange, mark_of}
@@ -11,11 +11,13 @@ use Rattle.catalogue.specs.declared.rules.Kind.{Kind}
 use Rattle.catalogue.specs.declared.rules.Kind.TheVariants.{Term, Link, Unused}
 use Rattle.catalogue.specs.declared.rules.Fault.{Fault}
 use Rattle.catalogue.specs.declared.rules.Fault.TheVariants as fault
+use Rattle.catalogue.specs.declared.refusals.Place.{Place}
+use Rattle.catalogue.specs.declared.refusals.Place.TheVariants.{First, Second, Third}
 use Rattle.catalogue.specs.declared.refusals.Rule.{Rule}
 use Rattle.catalogue.specs.declared.refusals.Rule.TheVariants as rule
 use Rattle.catalogue.specs.declared.refusals.Refusal.{Refusal}
 use Rattle.catalogue.specs.declared.refusals.Refusal.TheVariants.{UnknownForm, OutOfRange, LowestMark}
-use Rattle.catalogue.specs.Refusals.{Verdict, fine, refuse, refused, row, ◌then◌}
+use Rattle.catalogue.specs.Refusals.{Verdict, fine, refuse, refused, row, ◌then◌, place_number}
 
 abbrev pub rule_of : Fault → Rule
 rule_of fault.Form = rule.Form
@@ -71,6 +73,33 @@ KeptInWords {M} C =
     → (card_verdict C n k card ≡ fine → (a : Axiom M) × (card ≡ card_of a) × InRange n k a × (C.leq (mark_of a) C.low ≡ false))
     × ((a : Axiom M) → card ≡ card_of a → InRange n k a → C.leq (mark_of a) C.low ≡ false → card_verdict C n k card ≡ fine)
 
+-- the number that a statement has at a place, and the kind of number that a form has there
+abbrev pub number_at : Place → Statement → ℕ
+number_at First s = s.first
+number_at Second s = s.second
+number_at Third s = s.third
+
+abbrev pub kind_at : Place → Kind × Kind × Kind → Kind
+kind_at First kinds = kinds.0
+kind_at Second kinds = kinds.1
+kind_at Third kinds = kinds.2
+
+-- the first place of a statement whose number is out of range for its kind
+pub record FirstOut (n k : ℕ) (s : Statement) (place : Place) : Type 0 where
+  pub expected : Kind × Kind × Kind
+  pub known : kinds s.form ≡ Some expected
+  pub out : admits n k (kind_at place expected) (number_at place s) ≡ false
+  pub before : (earlier : Place) → place_number earlier < place_number place → admits n k (kind_at earlier expected) (number_at earlier s) ≡ true
+
+-- and which rule a card breaks, in words: 3 comes exactly where its form is not 1 to 6, 4 with a place exactly where that is the first whose number is out of range, and 5 exactly where it is the record of an axiom that is in range, but whose mark is at most the lowest
+pub record WhichRule {M : Type 0} (C : Chain M) (n k : ℕ) (card : Card M) : Type 0 where
+  pub unknown : (card_verdict C n k card ≡ refuse 3 []) ↔ ((card.statement.form ≡ 0) ⊎ (6 < card.statement.form))
+  pub out_of_range : (place : Place) → (card_verdict C n k card ≡ refuse 4 (place_number place ∷ [])) ↔ FirstOut n k card.statement place
+  pub lowest : (card_verdict C n k card ≡ refuse 5 []) ↔ ((a : Axiom M) × (card ≡ card_of a) × InRange n k a × AtMost C (mark_of a) C.low)
+
+unfoldable pub RuleInWords : {M : Type 0} → Chain M → Type 0
+RuleInWords {M} C = (n k : ℕ) (card : Card M) → WhichRule C n k card
+
 abbrev pub at_place : (place : ℕ) → Verdict → Verdict
 at_place place fine = fine
 at_place place (refuse number values) = refuse 9 (place ∷ number ∷ [])
@@ -80,32 +109,29 @@ abbrev pub cards_verdict : {M : Type 0} → Chain M → (n k : ℕ) → (place :
 cards_verdict C n k place [] = fine
 cards_verdict C n k place (card ∷ cards) = at_place place (card_verdict C n k card) then cards_verdict C n k (suc place) cards
 
--- the first card of a list that breaks a rule: where it stands and the refusal that it alone would get; the cards before it keep the rules
-pub record FirstBroken {M : Type 0} (C : Chain M) (n k : ℕ) (cards : List (Card M)) (place number : ℕ) : Type 0 where
+-- the first card of a list that breaks a rule, where places count from a number on: its place, and the number of the refusal that it alone would get; the cards before it keep the rules
+pub record FirstBroken {M : Type 0} (C : Chain M) (n k start : ℕ) (cards : List (Card M)) (place number : ℕ) : Type 0 where
   pub before : List (Card M)
   pub card : Card M
   pub after : List (Card M)
   pub parts : cards ≡ before ++ (card ∷ after)
-  pub stands_at : length before ≡ place
-  pub kept : (other : Card M) → Memᴰ other before → card_verdict C n k other ≡ fine
+  pub stands_at : start + length before ≡ place
+  pub keep : (other : Card M) → Memᴰ other before → card_verdict C n k other ≡ fine
   pub values : List ℕ
   pub broken : card_verdict C n k card ≡ refuse number values
 
 -- the verdict on a list of cards in words: fine exactly where each card keeps the rules, and 9 with a place and a number exactly where the first card that breaks a rule stands there and would be refused so
-pub record FirstBrokenInWords {M : Type 0} (C : Chain M) (n k : ℕ) (cards : List (Card M)) : Type 0 where
-  pub all_keep : cards_verdict C n k 0 cards ≡ fine → (card : Card M) → Memᴰ card cards → card_verdict C n k card ≡ fine
-  pub fine_then : ((card : Card M) → Memᴰ card cards → card_verdict C n k card ≡ fine) → cards_verdict C n k 0 cards ≡ fine
-  pub one_broken : (place number : ℕ) → cards_verdict C n k 0 cards ≡ refuse 9 (place ∷ number ∷ []) → FirstBroken C n k cards place number
-  pub refused_then : (place number : ℕ) → FirstBroken C n k cards place number → cards_verdict C n k 0 cards ≡ refuse 9 (place ∷ number ∷ [])
+pub record WhichCard {M : Type 0} (C : Chain M) (n k start : ℕ) (cards : List (Card M)) : Type 0 where
+  pub all_keep : (cards_verdict C n k start cards ≡ fine) ↔ ((card : Card M) → Memᴰ card cards → card_verdict C n k card ≡ fine)
+  pub one_broken : (place number : ℕ) → (cards_verdict C n k start cards ≡ refuse 9 (place ∷ number ∷ [])) ↔ FirstBroken C n k start cards place number
 
 unfoldable pub BrokenInWords : {M : Type 0} → Chain M → Type 0
-BrokenInWords {M} C = (n k : ℕ) (cards : List (Card M)) → FirstBrokenInWords C n k cards
+BrokenInWords {M} C = (n k start : ℕ) (cards : List (Card M)) → WhichCard C n k start cards
 
 -- what cards say, in words: of cards that keep the rules, an axiom is among what they say exactly where its record is among them
 unfoldable pub SaidInWords : {M : Type 0} → Chain M → Type 0
 SaidInWords {M} C =
-    (n k : ℕ) (cards : List (Card M)) → cards_verdict C n k 0 cards ≡ fine → (a : Axiom M)
-    → (In a (axioms cards) → Memᴰ (card_of a) cards) × (Memᴰ (card_of a) cards → In a (axioms cards))
+    (n k : ℕ) (cards : List (Card M)) → cards_verdict C n k 0 cards ≡ fine → (a : Axiom M) → In a (axioms cards) ↔ Memᴰ (card_of a) cards
 
 -- 6 where the statement stands already, 7 where as many cards stand, f, as the table has places, c
 abbrev pub room_verdict : {M : Type 0} → (f c : ℕ) → (standing : List (Card M)) → Statement → Verdict

@@ -4,7 +4,7 @@ ghost use Rattle.logic.specs.Axioms.{AllInRange};
 ghost use Rattle.logic.specs.Records.{axioms};
 ghost use Rattle.logic.specs.Statements.{StandsInWords};
 ghost use Rattle.catalogue.specs.Refusals.{verdict_of, row};
-ghost use Rattle.catalogue.specs.Rules.{KeptInWords, BrokenInWords, SaidInWords};
+ghost use Rattle.catalogue.specs.Rules.{KeptInWords, RuleInWords, BrokenInWords, SaidInWords};
 ghost use Rattle.catalogue.specs.Calls.{numbers, of_numbers, of_draft, of_classified, within_limits, lengths_fit, classify_verdict, Built, Filed, Classifies, Asked};
 
 use super::refusals::{Place, Refusal};
@@ -81,10 +81,11 @@ impl Draft {
     }
 
     /// Files a card: writes it after the standing ones.
-    #[tactic(auto, using(crate::proofs::Keeping::kept_in_words, logic::proofs::Standing::stands_in_words))]
+    #[tactic(auto, using(crate::proofs::Keeping::kept_in_words, crate::proofs::Keeping::rule_in_words, logic::proofs::Standing::stands_in_words))]
     pub fn file<S: Scale>(&mut self, cards: &mut [Card<S>], card: Card<S>) -> Result<(), Refusal>
         ensures filed { Filed S.Scale.order (of_draft self.old) cards.old card result (of_draft self.new) cards.new }
         ensures kept { KeptInWords S.Scale.order }
+        ensures rule { RuleInWords S.Scale.order }
         ensures stands { StandsInWords S }
     {
         let Numbers {

@@ -1,6 +1,6 @@
 // Refusals.
 ghost use Rattle.std.specs.Prelude.{◌≡◌, ◌++◌, Some, codes, decimal};
-ghost use Rattle.catalogue.specs.Refusals.{refused, number_in, place_number};
+ghost use Rattle.catalogue.specs.Refusals.{refused, number_in, place_number, rule_number};
 
 use std::error::Error;
 use std::fmt;
@@ -22,12 +22,20 @@ impl From<Place> for u8 {
 }
 
 /// A rule that a card breaks: its form is not 1 to 6, a number of it is out of range for its kind, or its mark is the
-/// lowest.
+/// lowest. The rule's number is that of the refusal which the card alone would get.
 #[derive(Clone, Copy, Debug, PartialEq, Eq, Hash)]
 pub enum Rule {
-    Form,
+    Form = 3,
     Number,
     Mark,
+}
+
+impl From<Rule> for u8 {
+    ghost from_gives = { λ rule r. r ≡ rule_number rule };
+
+    fn from(rule: Rule) -> u8 {
+        rule as u8
+    }
 }
 
 /// Why a call was refused.

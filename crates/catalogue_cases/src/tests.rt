@@ -228,7 +228,7 @@ fn mark(number: u16) -> Result<PerMille, Fail> {
     Ok(PerMille::new(number).ok_or("a number up to 1000")?)
 }
 
-// The tour makes its cards alike. Neither crate stands on the other.
+// The tour and `closure_cases` make theirs alike; none of the three crates stands on another.
 fn card(record: Record) -> Result<Card<PerMille>, Fail> {
     let (form, first, second, third, number) = record;
     let mark = mark(number)?;
@@ -490,6 +490,14 @@ fn forms_and_places_by_number(rt: HostRuntime) -> Result<(), Fail> {
         (u8::from(First), u8::from(Second), u8::from(Third)),
         (1, 2, 3)
     );
+    assert_eq!(rt;
+        (
+            u8::from(Rule::Form),
+            u8::from(Rule::Number),
+            u8::from(Rule::Mark)
+        ),
+        (3, 4, 5)
+    );
     let refusal = Refusal::OutOfRange(Third);
     let text = format!(in rt.alloc(); "{}, {refusal}", UnknownForm(7))?;
     assert_eq!(rt; text.as_str(), "no form has the number 7, refused 4");
@@ -504,12 +512,14 @@ fn statements_of_cards(rt: HostRuntime) {
     assert!(rt; !statement.same(Card::chain(WET, SMOOTH, SLICK, Grade::Trace).statement()));
 }
 
-// How strongly something wet is slick; none where a call is refused.
+// How strongly something wet is slick; none where a call is refused. It is the example of the pages, where slick is the
+// term 3.
 fn how_slick() -> Option<Grade> {
-    let mut cards = [Card::is(ANY, ANY, Grade::Absent); 4];
-    let mut pairs = [Grade::Absent; 25];
+    const SLICK: u16 = 3;
+    let mut cards = [Card::is(0, 0, Grade::Absent); 4];
+    let mut pairs = [Grade::Absent; 16];
     let mut links = [Grade::Absent; 0];
-    let mut draft = Draft::build(5, 0, 4, &cards, &pairs, &links).ok()?;
+    let mut draft = Draft::build(4, 0, 4, &cards, &pairs, &links).ok()?;
     draft
         .file(&mut cards, Card::is(WET, SLICK, Grade::Strong))
         .ok()?;

@@ -1,8 +1,8 @@
 //! Closures of many small catalogues, to be compared with what another program says they are.
 //!
-//! Each line of the input is a catalogue: the number of its terms and of its links, and then five numbers for each card,
-//! which are its form, its three numbers and its per-mille mark. Of each the program prints the refusal of each card
-//! that is refused, the cells of both tables, and the best mark of every pair.
+//! Each line of the input is a catalogue: the number of its terms and of its links, the length of its card table, and
+//! then five numbers for each card, which are its form, its three numbers and its per-mille mark. Of each the program
+//! prints the refusal of each card that is refused, the cells of both tables, and the best mark of every pair.
 #![tactic(auto)]
 
 use anyhow::{Context, bail};
@@ -11,10 +11,7 @@ use logic::{ANY, Card, Statement};
 use scale::{PerMille, Scale};
 use std::alloc::Global;
 
-// The length of every catalogue's card table.
-const CAPACITY: usize = 12;
-
-fn numbers(alloc: Global, line: &str) -> anyhow::Result<Vec<u16>> {
+fn parse_numbers(alloc: Global, line: &str) -> anyhow::Result<Vec<u16>> {
     let mut numbers = Vec::new(alloc);
     for word in line.split_whitespace() {
         numbers.push(word.parse::<u16>()?)?;
@@ -79,22 +76,26 @@ fn best(
 }
 
 fn show(rt: &impl Print, alloc: Global, numbers: &[u16]) -> anyhow::Result<()> {
-    let [n, k, records @ ..] = numbers else {
-        bail!("a catalogue has a number of terms and one of links");
+    let [term_count, link_count, capacity, records @ ..] = numbers else {
+        bail!("a catalogue has three numbers before its cards");
     };
-    let (terms, links) = (usize::from(*n), usize::from(*k));
-    let cells = terms * terms;
-    let mut table = [Card::is(ANY, ANY, PerMille::lowest()); CAPACITY];
-    let mut pairs = vec![in alloc; PerMille::lowest(); cells]?;
-    let mut roles = vec![in alloc; PerMille::lowest(); links * cells]?;
-    println!(rt; "terms {n} links {k}")?;
-    let mut draft = Draft::build(terms, links, CAPACITY, &table, &pairs, &roles)?;
-    file(rt, &mut draft, &mut table, records)?;
-    match draft.classify(&table, &mut pairs, &mut roles) {
+    let (n, k, c) = (
+        usize::from(*term_count),
+        usize::from(*link_count),
+        usize::from(*capacity),
+    );
+    let lowest = PerMille::lowest();
+    let mut cards = vec![in alloc; Card::is(ANY, ANY, lowest); c]?;
+    let mut pairs = vec![in alloc; lowest; n * n]?;
+    let mut links = vec![in alloc; lowest; k * n * n]?;
+    println!(rt; "terms {n} links {k} cards {c}")?;
+    let mut draft = Draft::build(n, k, c, &cards, &pairs, &links)?;
+    file(rt, &mut draft, &mut cards, records)?;
+    match draft.classify(&cards, &mut pairs, &mut links) {
         Ok(classified) => {
             row(rt, "pairs", &pairs)?;
-            row(rt, "links", &roles)?;
-            best(rt, &classified, &pairs, *n)
+            row(rt, "links", &links)?;
+            best(rt, &classified, &pairs, *term_count)
         }
         Err((_draft, refusal)) => Err(refusal.into()),
     }
@@ -103,7 +104,7 @@ fn show(rt: &impl Print, alloc: Global, numbers: &[u16]) -> anyhow::Result<()> {
 fn main(rt: HostRuntime) -> anyhow::Result<()> {
     for line in rt.lines(rt.alloc()) {
         let line = line?;
-        let numbers = numbers(rt.alloc(), &line)?;
+        let numbers = parse_numbers(rt.alloc(), &line)?;
         show(&rt, rt.alloc(), &numbers)?;
     }
     Ok(())

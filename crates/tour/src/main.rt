@@ -2,10 +2,10 @@
 //! each of which is built, filled with cards, classified and asked, and prints its cards and its answers.
 #![tactic(auto)]
 
+mod catalogues;
 mod lines;
 mod names;
 mod route;
-mod scenes;
 
 use anyhow::Context;
 use route::Route;
@@ -42,7 +42,7 @@ fn routes(rt: &impl Print) -> anyhow::Result<()> {
 
 fn main(rt: HostRuntime) -> anyhow::Result<()> {
     routes(&rt)?;
-    scenes::terms(&rt)?;
-    scenes::links(&rt)?;
-    scenes::edge_cases(&rt)
+    catalogues::terms(&rt)?;
+    catalogues::links(&rt)?;
+    catalogues::edge_cases(&rt)
 }

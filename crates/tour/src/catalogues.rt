@@ -6,8 +6,8 @@ use catalogue::{Classified, Draft, Refusal};
 use logic::{ANY, Card, NONE};
 use scale::{PerMille, Scale};
 
-// A card whose mark is a plain number, as a card of the per-mille scale. The cases make theirs alike, in a crate on
-// which no program stands.
+// A card whose mark is a plain number, as a card of the per-mille scale. The two crates of cases on catalogues make theirs
+// alike; none of the three stands on another.
 fn graded(card: &Card<u16>) -> anyhow::Result<Card<PerMille>> {
     let mark = PerMille::new(card.mark).context("no per-mille mark is above 1000")?;
     Ok(Card {
