@@ -20,8 +20,8 @@ CATALOGUES = 200
 KINDS = {1: "tt-", 2: "ttt", 3: "tlt", 4: "ltt", 5: "ll-", 6: "lll"}
 
 
-class Numbers:
-    """A linear congruential generator."""
+class Generator:
+    """Random numbers, by a linear congruence."""
 
     def __init__(self, seed):
         self.state = seed
@@ -48,11 +48,13 @@ def catalogue(rng):
         form = forms[rng.below(len(forms))]
         numbers = [number(rng, kind, bounds[kind]) for kind in KINDS[form]]
         mark = marks[rng.below(len(marks))]
+        # Seldom an unknown form, a number out of range, the lowest mark, or a statement once more.
         slip = rng.below(40)
         if slip == 0:
             form = 7 * rng.below(2)
         elif slip in (1, 2, 3):
-            numbers[slip - 1] += bounds[KINDS[form][slip - 1]]
+            for at in range(slip - 1, 3, 1 + rng.below(2)):
+                numbers[at] += bounds[KINDS[form][at]]
         elif slip == 4:
             mark = 0
         elif slip in (5, 6) and cards:
@@ -62,23 +64,24 @@ def catalogue(rng):
 
 
 def refusal(n, k, c, standing, card):
-    """The number of the refusal that filing the card meets, or None."""
+    """The number of the refusal that filing the card meets, and the place that 4 carries; or None."""
     form, *numbers, mark = card
     if form not in KINDS:
-        return 3
+        return "3"
     bounds = {"t": n, "l": k, "-": 1}
-    if any(number >= bounds[kind] for number, kind in zip(numbers, KINDS[form])):
-        return 4
+    out = [place for place, kind in enumerate(KINDS[form], 1) if numbers[place - 1] >= bounds[kind]]
+    if out:
+        return f"4 {min(out)}"
     if mark == 0:
-        return 5
+        return "5"
     if any(other[:4] == card[:4] for other in standing):
-        return 6
+        return "6"
     if len(standing) == c:
-        return 7
+        return "7"
     return None
 
 
-def plain_closure(n, k, axioms):
+def plain_closure(n, axioms):
     """The pairs and the links that follow from axioms without marks."""
     pairs = {(x, x) for x in range(n)} | {(x, ANY) for x in range(n)}
     links = set()
@@ -107,10 +110,10 @@ def plain_closure(n, k, axioms):
         links |= new_links
 
 
-def closure(n, k, cards):
+def closure(n, cards):
     pairs, links = {}, {}
     for level in sorted({HIGHEST} | {card[4] for card in cards}, reverse=True):
-        at_level = plain_closure(n, k, [card[:4] for card in cards if card[4] >= level])
+        at_level = plain_closure(n, [card[:4] for card in cards if card[4] >= level])
         for cells, reached in zip((pairs, links), at_level):
             for cell in reached:
                 cells.setdefault(cell, level)
@@ -121,12 +124,12 @@ def answers(n, k, c, cards):
     yield f"terms {n} links {k} cards {c}"
     standing = []
     for place, card in enumerate(cards):
-        number = refusal(n, k, c, standing, card)
-        if number is None:
+        refused = refusal(n, k, c, standing, card)
+        if refused is None:
             standing.append(card)
         else:
-            yield f"card {place} refused {number}"
-    pairs, links = closure(n, k, standing)
+            yield f"card {place} refused {refused}"
+    pairs, links = closure(n, standing)
     terms = range(n)
     yield " ".join(["pairs"] + [str(pairs.get((x, y), 0)) for x in terms for y in terms])
     yield " ".join(["links"] + [str(links.get((x, r, y), 0)) for r in range(k) for x in terms for y in terms])
@@ -135,16 +138,25 @@ def answers(n, k, c, cards):
     )
 
 
+def stdin(catalogues):
+    for n, k, c, cards in catalogues:
+        yield " ".join(map(str, [n, k, c, *(part for card in cards for part in card)]))
+
+
+def stdout(catalogues):
+    for given in catalogues:
+        yield from answers(*given)
+
+
 def main():
-    rng = Numbers(2026)
-    for _ in range(CATALOGUES):
-        n, k, c, cards = catalogue(rng)
-        if sys.argv[1:] == ["stdin"]:
-            print(n, k, c, *(number for card in cards for number in card))
-        elif sys.argv[1:] == ["stdout"]:
-            print(*answers(n, k, c, cards), sep="\n")
-        else:
-            sys.exit(__doc__)
+    rng = Generator(2026)
+    catalogues = [catalogue(rng) for _ in range(CATALOGUES)]
+    parts = {"stdin": stdin, "stdout": stdout}
+    if len(sys.argv) != 2 or sys.argv[1] not in parts:
+        sys.exit(__doc__)
+    for line in parts[sys.argv[1]](catalogues):
+        print(line)
 
 
-main()
+if __name__ == "__main__":
+    main()

@@ -1,18 +1,20 @@
 -- What it is for a card to keep the rules, which rule a card breaks, which card of a list is the first that breaks one, and what cards say, in words; cards that keep the rules are in range. Assumes nothing.
-use Rattle.std.proofs.Common.{◌≡◌, ℕ, zero, suc, ◌+◌, ◌<◌, Bool, true, false, not, eqb, ltb, ◌⊎◌, ◌↔◌, Option, Some, None, List, [], ◌∷◌, ◌++◌, length, sym, refl, ap, ◌∙◌, subst, inl, inr, le_of_suc-le-suc, not-suc-le-zero, arith}
+use Rattle.std.proofs.Common.{◌≡◌, ℕ, zero, suc, ◌+◌, ◌<◌, Bool, true, false, not, eqb, ltb, ◌⊎◌, ◌↔◌, Option, Some, None, List, [], ◌∷◌, ◌++◌, length, sym, refl, ap, ◌∙◌, subst, inl, inr, arith}
 use mathlib.Core.List.{Memᴰ}
 use mathlib.Core.List.Memᴰ
-use Rattle.std.proofs.lemmas.Bool.{ltb-true, lt-ltb, eqb-true}
+use Rattle.std.proofs.lemmas.Bool.{both_ways, ltb-true, ltb-false, lt-ltb, le-ltb, eqb-true, eqb-false, ne_eqb}
 use Rattle.scale.specs.Order.{Chain, AtMost}
 use Rattle.logic.specs.declared.cards.Card.{Card}
 use Rattle.logic.specs.declared.cards.Statement.{Statement}
 use Rattle.logic.specs.Axioms.{Axiom, is, both, has, from, under, chain, InRange, AllInRange, In, mark_of}
 use Rattle.logic.specs.Records.{card_of, card_with, says, axioms}
+use Rattle.logic.proofs.Saying.{said, same_axiom, recorded_said}
 use Rattle.catalogue.specs.declared.refusals.Place.{Place}
 use Rattle.catalogue.specs.declared.refusals.Place.TheVariants.{First, Second, Third}
 use Rattle.catalogue.specs.declared.rules.Kind.{Kind}
+use Rattle.catalogue.specs.declared.rules.Kind.TheVariants.{Term, Link, Unused}
 use Rattle.catalogue.specs.Refusals.{Verdict, fine, refuse, row, ◌then◌, place_number}
-use Rattle.catalogue.specs.Rules.{kinds, admits, number_at, kind_at, FirstOut, numbers_verdict, statement_verdict, card_verdict, cards_verdict, at_place, KeptInWords, RuleInWords, FirstBroken, BrokenInWords, SaidInWords}
+use Rattle.catalogue.specs.Rules.{kinds, admits, number_at, kind_at, IsOut, FirstOut, numbers_verdict, statement_verdict, card_verdict, cards_verdict, at_place, KeptInWords, RuleInWords, FirstBroken, BrokenInWords, SaidInWords}
 
 -- the tests of three numbers, which pass or not
 abbrev numbers_test : (first second third : Bool) → Verdict
@@ -43,9 +45,9 @@ first_out : (place : Place) (p q r l : Bool) → (numbers_test p q r then row 5 
 first_out First false q r l e = (refl, earlier)
   where
     earlier : (at : Place) → place_number at < 1 → answer_at at false q r ≡ true
-    earlier First h = absurd (not-suc-le-zero (le_of_suc-le-suc h))
-    earlier Second h = absurd (not-suc-le-zero (le_of_suc-le-suc h))
-    earlier Third h = absurd (not-suc-le-zero (le_of_suc-le-suc h))
+    earlier First h = absurd (omega arith)
+    earlier Second h = absurd (omega arith)
+    earlier Third h = absurd (omega arith)
 first_out First true false r l e = cc
 first_out First true true false l e = cc
 first_out First true true true false e = cc
@@ -55,8 +57,8 @@ first_out Second true false r l e = (refl, earlier)
   where
     earlier : (at : Place) → place_number at < 2 → answer_at at true false r ≡ true
     earlier First h = refl
-    earlier Second h = absurd (not-suc-le-zero (le_of_suc-le-suc (le_of_suc-le-suc h)))
-    earlier Third h = absurd (not-suc-le-zero (le_of_suc-le-suc (le_of_suc-le-suc h)))
+    earlier Second h = absurd (omega arith)
+    earlier Third h = absurd (omega arith)
 first_out Second true true false l e = cc
 first_out Second true true true false e = cc
 first_out Second true true true true e = cc
@@ -67,7 +69,7 @@ first_out Third true true false l e = (refl, earlier)
     earlier : (at : Place) → place_number at < 3 → answer_at at true true false ≡ true
     earlier First h = refl
     earlier Second h = refl
-    earlier Third h = absurd (not-suc-le-zero (le_of_suc-le-suc (le_of_suc-le-suc (le_of_suc-le-suc h))))
+    earlier Third h = absurd (omega arith)
 first_out Third true true true false e = cc
 first_out Third true true true true e = cc
 
@@ -86,15 +88,41 @@ lowest_last true false r l e = cc
 lowest_last false q r l e = cc
 
 -- the forms that have no kinds
+known_form : (form : ℕ) → 0 < form → form < 7 → (form ≡ 0) ⊎ (6 < form) → ⊥
+known_form form some few (inl e) = omega arith
+known_form form some few (inr lt) = omega arith
+
 no_kinds : (form : ℕ) → (kinds form ≡ None) ↔ ((form ≡ 0) ⊎ (6 < form))
 no_kinds zero = (λ _. inl refl, λ _. refl)
-no_kinds (suc zero) = (λ e. cc, λ h. absurd (elim h [ inl e ↦ omega arith | inr lt ↦ omega arith ]))
-no_kinds (suc (suc zero)) = (λ e. cc, λ h. absurd (elim h [ inl e ↦ omega arith | inr lt ↦ omega arith ]))
-no_kinds (suc (suc (suc zero))) = (λ e. cc, λ h. absurd (elim h [ inl e ↦ omega arith | inr lt ↦ omega arith ]))
-no_kinds (suc (suc (suc (suc zero)))) = (λ e. cc, λ h. absurd (elim h [ inl e ↦ omega arith | inr lt ↦ omega arith ]))
-no_kinds (suc (suc (suc (suc (suc zero))))) = (λ e. cc, λ h. absurd (elim h [ inl e ↦ omega arith | inr lt ↦ omega arith ]))
-no_kinds (suc (suc (suc (suc (suc (suc zero)))))) = (λ e. cc, λ h. absurd (elim h [ inl e ↦ omega arith | inr lt ↦ omega arith ]))
+no_kinds (suc zero) = (λ e. cc, λ h. absurd (known_form 1 (omega arith) (omega arith) h))
+no_kinds (suc (suc zero)) = (λ e. cc, λ h. absurd (known_form 2 (omega arith) (omega arith) h))
+no_kinds (suc (suc (suc zero))) = (λ e. cc, λ h. absurd (known_form 3 (omega arith) (omega arith) h))
+no_kinds (suc (suc (suc (suc zero)))) = (λ e. cc, λ h. absurd (known_form 4 (omega arith) (omega arith) h))
+no_kinds (suc (suc (suc (suc (suc zero))))) = (λ e. cc, λ h. absurd (known_form 5 (omega arith) (omega arith) h))
+no_kinds (suc (suc (suc (suc (suc (suc zero)))))) = (λ e. cc, λ h. absurd (known_form 6 (omega arith) (omega arith) h))
 no_kinds (suc (suc (suc (suc (suc (suc (suc form))))))) = (λ _. inr (omega arith), λ _. refl)
+
+-- a number is admitted where it is not out of range
+module _ (n k : ℕ) where
+  out_of : (kind : Kind) (x : ℕ) → admits n k kind x ≡ false → IsOut n k kind x
+  out_of Term x e = ltb-false x n e
+  out_of Link x e = ltb-false x k e
+  out_of Unused x e = eqb-false x 0 e
+
+  not_admitted : (kind : Kind) (x : ℕ) → IsOut n k kind x → admits n k kind x ≡ false
+  not_admitted Term x h = le-ltb x n h
+  not_admitted Link x h = le-ltb x k h
+  not_admitted Unused x h = ne_eqb x 0 h
+
+  not_out : (kind : Kind) (x : ℕ) → admits n k kind x ≡ true → IsOut n k kind x → ⊥
+  not_out kind x e h = both_ways (admits n k kind x) (not_admitted kind x h) e
+
+  admitted : (kind : Kind) (x : ℕ) → (IsOut n k kind x → ⊥) → admits n k kind x ≡ true
+  admitted kind x within = by (admits n k kind x) refl
+    where
+      by : (b : Bool) → admits n k kind x ≡ b → admits n k kind x ≡ true
+      by true e = e
+      by false e = absurd (within (out_of kind x e))
 
 -- the numbers of a form that is known, and of one that is not
 module _ (n k : ℕ) (s : Statement) (l : Bool) where
@@ -115,7 +143,12 @@ module _ (n k : ℕ) (s : Statement) (l : Bool) where
   out_first place None known e = cc
   out_first place (Some ks) known e =
       let (out, before) = first_out place (admits n k ks.0 s.first) (admits n k ks.1 s.second) (admits n k ks.2 s.third) l e in
-      record { expected = ks; known = known; out = sym (answer_of ks place) ∙ out; before = λ earlier h. sym (answer_of ks earlier) ∙ before earlier h }
+      record {
+        expected = ks;
+        known = known;
+        out = out_of n k (kind_at place ks) (number_at place s) (sym (answer_of ks place) ∙ out);
+        before = λ earlier h. not_out n k (kind_at earlier ks) (number_at earlier s) (sym (answer_of ks earlier) ∙ before earlier h);
+      }
 
   first_refused : (place : Place) (ks : Kind × Kind × Kind) → admits n k (kind_at place ks) (number_at place s) ≡ false → ((earlier : Place) → place_number earlier < place_number place → admits n k (kind_at earlier ks) (number_at earlier s) ≡ true)
       → (numbers_verdict n k (Some ks) s then row 5 [] l) ≡ refuse 4 (place_number place ∷ [])
@@ -189,7 +222,9 @@ rule_in_words C n k card =
       );
       out_of_range = λ place. (
         λ e. out_first n k s l place (kinds s.form) refl e,
-        λ f. ap (λ o. numbers_verdict n k o s then row 5 [] l) f.known ∙ first_refused n k s l place f.expected f.out f.before,
+        λ f.
+            ap (λ o. numbers_verdict n k o s then row 5 [] l) f.known
+            ∙ first_refused n k s l place f.expected (not_admitted n k _ _ f.out) (λ earlier h. admitted n k _ _ (f.before earlier h)),
       );
       lowest = (
         λ e.
@@ -199,15 +234,6 @@ rule_in_words C n k card =
         λ f. subst (λ c. card_verdict C n k c ≡ refuse 5 []) (sym f.1) (mark_left n k C f.0 true f.2 f.3),
       );
     }
-
--- the record of an axiom says it
-said : {M : Type 0} (a : Axiom M) → says (card_of a) ≡ a ∷ []
-said (is A B m) = refl
-said (both A B D m) = refl
-said (has A r B m) = refl
-said (from r A B m) = refl
-said (under r s m) = refl
-said (chain r q s m) = refl
 
 first_fine : (place : ℕ) (v w : Verdict) → (at_place place v then w) ≡ fine → (v ≡ fine) × (w ≡ fine)
 first_fine place fine w e = (refl, e)
@@ -299,14 +325,6 @@ said_recorded C n k start (card ∷ cards) e a i =
       | inr later ↦ Memᴰ.tail (said_recorded C n k (suc start) cards rest a later)
     ]
 
-recorded_said : {M : Type 0} (cards : List (Card M)) (a : Axiom M) → Memᴰ (card_of a) cards → In a (axioms cards)
-recorded_said [] a i = absurd (Memᴰ.not-nil i)
-recorded_said (card ∷ cards) a i =
-    elim (Memᴰ.cases_cons i) [
-      | inl same ↦ Memᴰ.append_left (axioms cards) (subst (In a) (sym (said a) ∙ ap says same) (Memᴰ.head refl))
-      | inr later ↦ Memᴰ.append_right (says card) (recorded_said cards a later)
-    ]
-
 pub said_in_words : {M : Type 0} (C : Chain M) → SaidInWords C
 unfolding SaidInWords
 said_in_words C n k cards e a = (said_recorded C n k 0 cards e a, recorded_said cards a)
@@ -314,11 +332,6 @@ said_in_words C n k cards e a = (said_recorded C n k 0 cards e a, recorded_said 
 -- cards that keep the rules say axioms that are in range
 pub cards_in_range : {M : Type 0} (C : Chain M) (n k place : ℕ) (cards : List (Card M)) → cards_verdict C n k place cards ≡ fine → AllInRange n k (axioms cards)
 unfolding KeptInWords
-cards_in_range C n k place [] e a i = absurd (Memᴰ.not-nil i)
-cards_in_range C n k place (card ∷ cards) e a i =
-    let (here, rest) = first_fine place (card_verdict C n k card) _ e in
-    let (b, is_b, h, l) = (kept_in_words C n k card).0 here in
-    elim (Memᴰ.append_cases (says card) i) [
-      | inl own ↦ subst (InRange n k) (sym (Memᴰ.eq_of_singleton (subst (In a) (ap says is_b ∙ said b) own))) h
-      | inr later ↦ cards_in_range C n k (suc place) cards rest a later
-    ]
+cards_in_range C n k place cards e a i =
+    let (b, same, h, l) = (kept_in_words C n k (card_of a)).0 (all_keep C n k place cards e (card_of a) (said_recorded C n k place cards e a i)) in
+    subst (InRange n k) (sym (same_axiom a b same)) h

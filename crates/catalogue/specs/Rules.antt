@@ -1,5 +1,5 @@
 -- The rules that a card has to keep: its form, its numbers, its mark. Assumes nothing.
-use Rattle.std.specs.Prelude.{◌≡◌, ℕ, zero, suc, ◌+◌, ◌<◌, Bool, true, false, not, ◌⊎◌, ◌↔◌, List, [], ◌∷◌, ◌++◌, length, Some, None, Ok, Err, Option, Result, ◌==◌, nat_lt}
+use Rattle.std.specs.Prelude.{◌≡◌, ℕ, zero, suc, ◌+◌, ◌<◌, ◌≤◌, ◌≢◌, Bool, false, not, ◌⊎◌, ◌↔◌, List, [], ◌∷◌, ◌++◌, length, Some, None, Ok, Err, Option, Result, ◌==◌, nat_lt}
 use mathlib.Core.List.{Memᴰ}
 use Rattle.scale.specs.Order.{Chain, AtMost}
 use Rattle.logic.specs.declared.cards.Card.{Card}
@@ -84,14 +84,20 @@ kind_at First kinds = kinds.0
 kind_at Second kinds = kinds.1
 kind_at Third kinds = kinds.2
 
+-- out of range is a term that is not below n, a link that is not below k, and an unused number that is not 0
+abbrev pub IsOut : (n k : ℕ) → Kind → ℕ → Type 0
+IsOut n k Term number = n ≤ number
+IsOut n k Link number = k ≤ number
+IsOut n k Unused number = number ≢ 0
+
 -- the first place of a statement whose number is out of range for its kind
 pub record FirstOut (n k : ℕ) (s : Statement) (place : Place) : Type 0 where
   pub expected : Kind × Kind × Kind
   pub known : kinds s.form ≡ Some expected
-  pub out : admits n k (kind_at place expected) (number_at place s) ≡ false
-  pub before : (earlier : Place) → place_number earlier < place_number place → admits n k (kind_at earlier expected) (number_at earlier s) ≡ true
+  pub out : IsOut n k (kind_at place expected) (number_at place s)
+  pub before : (earlier : Place) → place_number earlier < place_number place → IsOut n k (kind_at earlier expected) (number_at earlier s) → ⊥
 
--- and which rule a card breaks, in words: 3 comes exactly where its form is not 1 to 6, 4 with a place exactly where that is the first whose number is out of range, and 5 exactly where it is the record of an axiom that is in range, but whose mark is at most the lowest
+-- which rule a card breaks, in words: 3 comes exactly where its form is not 1 to 6, 4 with a place exactly where that is the first whose number is out of range, and 5 exactly where it is the record of an axiom that is in range, but whose mark is at most the lowest
 pub record WhichRule {M : Type 0} (C : Chain M) (n k : ℕ) (card : Card M) : Type 0 where
   pub unknown : (card_verdict C n k card ≡ refuse 3 []) ↔ ((card.statement.form ≡ 0) ⊎ (6 < card.statement.form))
   pub out_of_range : (place : Place) → (card_verdict C n k card ≡ refuse 4 (place_number place ∷ [])) ↔ FirstOut n k card.statement place

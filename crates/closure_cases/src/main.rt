@@ -1,12 +1,13 @@
-//! Closures of many small catalogues, to be compared with what another program says they are.
+//! Closures of many small catalogues, to be compared with what `tools/closures.py` says they are.
 //!
 //! Each line of the input is a catalogue: the number of its terms and of its links, the length of its card table, and
 //! then five numbers for each card, which are its form, its three numbers and its per-mille mark. Of each the program
-//! prints the refusal of each card that is refused, the cells of both tables, and the best mark of every pair.
+//! prints these three, the refusal of each card that is refused, the cells of both tables, and the best mark of every
+//! pair.
 #![tactic(auto)]
 
 use anyhow::{Context, bail};
-use catalogue::{Classified, Draft};
+use catalogue::{Classified, Draft, Refusal};
 use logic::{ANY, Card, Statement};
 use scale::{PerMille, Scale};
 use std::alloc::Global;
@@ -33,7 +34,7 @@ fn card(record: &[u16]) -> anyhow::Result<Card<PerMille>> {
     Ok(Card { statement, mark })
 }
 
-// Files the cards, and prints which of them is refused, from 0, and with what.
+// Files the cards, and prints which of them is refused, from 0, and with what number and place.
 fn file(
     rt: &impl Print,
     draft: &mut Draft,
@@ -41,8 +42,13 @@ fn file(
     records: &[u16],
 ) -> anyhow::Result<()> {
     for (place, record) in records.chunks(5).enumerate() {
-        if let Err(refusal) = draft.file(table, card(record)?) {
-            println!(rt; "card {place} {refusal}")?;
+        match draft.file(table, card(record)?) {
+            Ok(()) => {}
+            Err(Refusal::OutOfRange(at)) => println!(rt;
+                "card {place} refused 4 {}",
+                u8::from(at)
+            )?,
+            Err(refusal) => println!(rt; "card {place} {refusal}")?,
         }
     }
     Ok(())

@@ -1,9 +1,32 @@
--- The records of a list and the axioms that they say. Assumes nothing.
-use Rattle.std.proofs.Common.{◌≡◌, ℕ, zero, suc, ◌<◌, List, [], ◌∷◌, length, get_or, refl, subst, inl, inr, le_of_suc-le-suc, not-suc-le-zero, arith}
+-- The records of axioms, the records of a list, and the axioms that they say. Assumes nothing.
+use Rattle.std.proofs.Common.{◌≡◌, ℕ, zero, suc, ◌<◌, List, [], ◌∷◌, length, get_or, sym, refl, ap, ◌∙◌, subst, inl, inr, le_of_suc-le-suc, not-suc-le-zero, arith}
+use mathlib.Core.List.{Memᴰ}
 use mathlib.Core.List.Memᴰ
 use Rattle.logic.specs.declared.cards.Card.{Card}
-use Rattle.logic.specs.Axioms.{Axiom, In}
-use Rattle.logic.specs.Records.{says, axioms}
+use Rattle.logic.specs.Axioms.{Axiom, is, both, has, from, under, chain, In}
+use Rattle.logic.specs.Records.{card_of, says, axioms}
+
+-- the record of an axiom says it, and it alone
+pub said : {M : Type 0} (a : Axiom M) → says (card_of a) ≡ a ∷ []
+said (is A B m) = refl
+said (both A B D m) = refl
+said (has A r B m) = refl
+said (from r A B m) = refl
+said (under r s m) = refl
+said (chain r q s m) = refl
+
+-- so axioms of one record are the same
+pub same_axiom : {M : Type 0} (a b : Axiom M) → card_of a ≡ card_of b → a ≡ b
+same_axiom a b e = Memᴰ.eq_of_singleton (subst (In a) (sym (said a) ∙ ap says e ∙ said b) (Memᴰ.head refl))
+
+-- an axiom whose record is among a list is among what the list says
+pub recorded_said : {M : Type 0} (cards : List (Card M)) (a : Axiom M) → Memᴰ (card_of a) cards → In a (axioms cards)
+recorded_said [] a i = absurd (Memᴰ.not-nil i)
+recorded_said (card ∷ cards) a i =
+    elim (Memᴰ.cases_cons i) [
+      | inl same ↦ Memᴰ.append_left (axioms cards) (subst (In a) (sym (said a) ∙ ap says same) (Memᴰ.head refl))
+      | inr later ↦ Memᴰ.append_right (says card) (recorded_said cards a later)
+    ]
 
 -- what the record at a place says is among what the list says
 pub said_at : {M : Type 0} (cards : List (Card M)) (i : ℕ) (card : Card M) → i < length cards → card ≡ get_or cards i card → (a : Axiom M) → In a (says card) → In a (axioms cards)

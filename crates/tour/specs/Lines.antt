@@ -1,4 +1,4 @@
--- The lines that the program prints. Assumes nothing.
+-- The lines of cards and of answers. Assumes nothing.
 use Rattle.std.specs.Prelude.{ℕ, zero, suc, List, [], ◌∷◌, ◌++◌, codes}
 use Rattle.scale.specs.Thousandths.{mille_bytes}
 use Rattle.scale.specs.declared.per_mille.PerMille.{PerMille}

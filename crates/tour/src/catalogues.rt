@@ -6,8 +6,8 @@ use catalogue::{Classified, Draft, Refusal};
 use logic::{ANY, Card, NONE};
 use scale::{PerMille, Scale};
 
-// A card whose mark is a plain number, as a card of the per-mille scale. The two crates of cases on catalogues make theirs
-// alike; none of the three stands on another.
+// A card whose mark is a plain number, as a card of the per-mille scale. The two crates of cases on catalogues make
+// theirs alike; none of the three stands on another.
 fn graded(card: &Card<u16>) -> anyhow::Result<Card<PerMille>> {
     let mark = PerMille::new(card.mark).context("no per-mille mark is above 1000")?;
     Ok(Card {
@@ -84,10 +84,10 @@ fn show(
 }
 
 // What follows from cards on terms alone.
-pub(crate) fn terms(rt: &impl Print) -> anyhow::Result<()> {
+pub(crate) fn over_terms(rt: &impl Print) -> anyhow::Result<()> {
     show(
         rt,
-        "A route is as strong as its lowest mark: it is not the product.",
+        "What is wet is slick, and what is slick is risky: the lowest mark counts, and not the product.",
         &[Card::is(WET, SLICK, 700), Card::is(SLICK, RISKY, 400)],
         &[(WET, RISKY), (RISKY, WET)],
     )?;
@@ -104,7 +104,7 @@ pub(crate) fn terms(rt: &impl Print) -> anyhow::Result<()> {
 }
 
 // What follows from cards on links.
-pub(crate) fn links(rt: &impl Print) -> anyhow::Result<()> {
+pub(crate) fn over_links(rt: &impl Print) -> anyhow::Result<()> {
     show(
         rt,
         "A floor lies over ice, and what lies over something wet is risky.",

@@ -42,7 +42,7 @@ fn routes(rt: &impl Print) -> anyhow::Result<()> {
 
 fn main(rt: HostRuntime) -> anyhow::Result<()> {
     routes(&rt)?;
-    catalogues::terms(&rt)?;
-    catalogues::links(&rt)?;
+    catalogues::over_terms(&rt)?;
+    catalogues::over_links(&rt)?;
     catalogues::edge_cases(&rt)
 }
